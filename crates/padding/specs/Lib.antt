@@ -1,0 +1,3 @@
+pub mod Words
+pub mod Padding
+pub mod Sha2

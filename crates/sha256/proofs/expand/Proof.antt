@@ -1,0 +1,91 @@
+-- `sha256::expand` meets its contract. The loop's invariant: the first i * 4 + 16 words are the schedule's. Assumes nothing.
+use Rattle.sha256.specs.Sha256.{P}
+use Rattle.padding.proofs.Laws.{Grown, grown-more, grown-all, next-take}
+use Rattle.padding.specs.Sha2.{next, expanded}
+use Rattle.padding.specs.Words.{run}
+use lib.ListN.{take}
+use mathlib.Core.Path.{_≡_, refl}
+use Prim.Native.Nat.{_+_, _-_, _*_, _≤_}
+use native.Mathlib.Omega.{arith}
+use borrow.Author.Needs.{needs}
+use Rattle.sha256.proofs.expand.Statement.{statement}
+use Rattle.sha256.proofs.expand.Tie as tie
+
+abbrev Inv-loop : tie.InvT-loop
+Inv-loop w₀ i₀ w i = (i ≤ 12) × Grown (next P) 64 (i * 4) (take 16 w₀) w
+
+abbrev μ-loop : tie.MeasureT-loop
+μ-loop w₀ i₀ w i = 12 - i
+
+loop-holds : tie.Need-loop-holds Inv-loop μ-loop
+unfolding run
+loop-holds c = (search needs, record { full = c .before .pre; words = refl })
+
+mul-t : tie.Need-mul-t Inv-loop μ-loop
+mul-t c = search needs
+
+expand-one-requires : tie.Need-expand-one-requires Inv-loop μ-loop
+expand-one-requires c κs = (c .before .before .loop .inv .1 .full, search needs)
+
+add-expand-one : tie.Need-add-expand-one Inv-loop μ-loop
+add-expand-one c = search needs
+
+expand-one-requires-2 : tie.Need-expand-one-requires-2 Inv-loop μ-loop
+expand-one-requires-2 c κs = search needs
+
+add-expand-one-2 : tie.Need-add-expand-one-2 Inv-loop μ-loop
+add-expand-one-2 c = search needs
+
+expand-one-requires-3 : tie.Need-expand-one-requires-3 Inv-loop μ-loop
+expand-one-requires-3 c κs = search needs
+
+add-expand-one-3 : tie.Need-add-expand-one-3 Inv-loop μ-loop
+add-expand-one-3 c = search needs
+
+expand-one-requires-4 : tie.Need-expand-one-requires-4 Inv-loop μ-loop
+expand-one-requires-4 c κs = search needs
+
+add-i : tie.Need-add-i Inv-loop μ-loop
+add-i c = search needs
+
+loop-less : tie.Need-loop-less Inv-loop μ-loop
+loop-less c = search needs
+
+loop-again : tie.Need-loop-again Inv-loop μ-loop
+loop-again c =
+    let i = c .before .before .before .before .before .before .before .before .before .before .before .before .before .before .before .before .before .loop .i in
+    let g₀ = c .before .before .before .before .before .before .before .before .before .before .before .before .before .before .before .before .before .loop .inv .1 in
+    let g₁ = grown-more (next P) 64 (i * 4) (i * 4 + 1) _ _ _ refl (omega arith) (next-take P (i * 4) _) (c .before .before .before .before .before .before .before .before .before .before .before .before .before .before .expand-one .ensures) g₀ in
+    let g₂ = grown-more (next P) 64 (i * 4 + 1) (i * 4 + 2) _ _ _ (omega arith) (omega arith) (next-take P (i * 4 + 1) _) (c .before .before .before .before .before .before .before .before .before .before .expand-one2 .ensures) g₁ in
+    let g₃ = grown-more (next P) 64 (i * 4 + 2) (i * 4 + 3) _ _ _ (omega arith) (omega arith) (next-take P (i * 4 + 2) _) (c .before .before .before .before .before .before .expand-one3 .ensures) g₂ in
+    (search needs, grown-more (next P) 64 (i * 4 + 3) ((i + 1) * 4) _ _ _ (omega arith) (omega arith) (next-take P (i * 4 + 3) _) (c .before .before .expand-one4 .ensures) g₃)
+
+same-length : tie.Need-same-length Inv-loop μ-loop
+same-length c = search needs
+
+returns : tie.Need-returns Inv-loop μ-loop
+unfolding expanded
+returns c =
+    let h : c .before .loop .i ≡ 12 = omega arith in
+    rw h at (grown-all (next P) 64 (c .before .loop .i * 4) _ _ (omega arith) (c .before .loop .inv .1))
+
+pub expand-spec : {M : Type 1} → statement M
+expand-spec =
+    tie.close
+    (tie.spec
+    Inv-loop
+    μ-loop
+    loop-holds
+    mul-t
+    expand-one-requires
+    add-expand-one
+    expand-one-requires-2
+    add-expand-one-2
+    expand-one-requires-3
+    add-expand-one-3
+    expand-one-requires-4
+    add-i
+    loop-less
+    loop-again
+    same-length
+    returns)

@@ -1,0 +1,8 @@
+//! SHA-1 and SHA-256 as FIPS 180-4 states them, and the messages on which
+//! the programs of this project are compared.
+
+pub mod hex;
+pub mod messages;
+mod padding;
+pub mod sha1;
+pub mod sha256;

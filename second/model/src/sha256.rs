@@ -1,0 +1,152 @@
+//! SHA-256, FIPS 180-4, 6.2.
+
+use crate::padding::{Padded, BLOCK};
+
+/// The initial hash value, FIPS 180-4, 5.3.3.
+const INITIAL: [u32; 8] = [
+    0x6a09e667, 0xbb67ae85, 0x3c6ef372, 0xa54ff53a, 0x510e527f, 0x9b05688c, 0x1f83d9ab, 0x5be0cd19,
+];
+
+/// The constants, FIPS 180-4, 4.2.2.
+const K: [u32; 64] = [
+    0x428a2f98, 0x71374491, 0xb5c0fbcf, 0xe9b5dba5, 0x3956c25b, 0x59f111f1, 0x923f82a4, 0xab1c5ed5,
+    0xd807aa98, 0x12835b01, 0x243185be, 0x550c7dc3, 0x72be5d74, 0x80deb1fe, 0x9bdc06a7, 0xc19bf174,
+    0xe49b69c1, 0xefbe4786, 0x0fc19dc6, 0x240ca1cc, 0x2de92c6f, 0x4a7484aa, 0x5cb0a9dc, 0x76f988da,
+    0x983e5152, 0xa831c66d, 0xb00327c8, 0xbf597fc7, 0xc6e00bf3, 0xd5a79147, 0x06ca6351, 0x14292967,
+    0x27b70a85, 0x2e1b2138, 0x4d2c6dfc, 0x53380d13, 0x650a7354, 0x766a0abb, 0x81c2c92e, 0x92722c85,
+    0xa2bfe8a1, 0xa81a664b, 0xc24b8b70, 0xc76c51a3, 0xd192e819, 0xd6990624, 0xf40e3585, 0x106aa070,
+    0x19a4c116, 0x1e376c08, 0x2748774c, 0x34b0bcb5, 0x391c0cb3, 0x4ed8aa4a, 0x5b9cca4f, 0x682e6ff3,
+    0x748f82ee, 0x78a5636f, 0x84c87814, 0x8cc70208, 0x90befffa, 0xa4506ceb, 0xbef9a3f7, 0xc67178f2,
+];
+
+/// The SHA-256 digest of `message`.
+pub fn digest(message: &[u8]) -> [u8; 32] {
+    let mut hash = INITIAL;
+    let blocks = message.chunks_exact(BLOCK);
+    let end = Padded::new(blocks.remainder(), message.len());
+    for block in blocks.chain(end.blocks()) {
+        compress(&mut hash, block);
+    }
+    octets(&hash)
+}
+
+/// One block, FIPS 180-4, 6.2.2.
+fn compress(hash: &mut [u32; 8], block: &[u8]) {
+    let w = schedule(block);
+    let [mut a, mut b, mut c, mut d, mut e, mut f, mut g, mut h] = *hash;
+    for t in 0..64 {
+        let t1 = h
+            .wrapping_add(big_sigma_1(e))
+            .wrapping_add(ch(e, f, g))
+            .wrapping_add(K[t])
+            .wrapping_add(w[t]);
+        let t2 = big_sigma_0(a).wrapping_add(maj(a, b, c));
+        h = g;
+        g = f;
+        f = e;
+        e = d.wrapping_add(t1);
+        d = c;
+        c = b;
+        b = a;
+        a = t1.wrapping_add(t2);
+    }
+    for (h, v) in hash.iter_mut().zip([a, b, c, d, e, f, g, h]) {
+        *h = h.wrapping_add(v);
+    }
+}
+
+/// The message schedule, FIPS 180-4, 6.2.2, step 1.
+fn schedule(block: &[u8]) -> [u32; 64] {
+    let mut w = [0; 64];
+    for (word, octets) in w.iter_mut().zip(block.chunks_exact(4)) {
+        *word = u32::from_be_bytes([octets[0], octets[1], octets[2], octets[3]]);
+    }
+    for t in 16..64 {
+        w[t] = small_sigma_1(w[t - 2])
+            .wrapping_add(w[t - 7])
+            .wrapping_add(small_sigma_0(w[t - 15]))
+            .wrapping_add(w[t - 16]);
+    }
+    w
+}
+
+// The functions of FIPS 180-4, 4.1.2, equations 4.2 to 4.7.
+
+fn ch(x: u32, y: u32, z: u32) -> u32 {
+    (x & y) ^ (!x & z)
+}
+
+fn maj(x: u32, y: u32, z: u32) -> u32 {
+    (x & y) ^ (x & z) ^ (y & z)
+}
+
+fn big_sigma_0(x: u32) -> u32 {
+    x.rotate_right(2) ^ x.rotate_right(13) ^ x.rotate_right(22)
+}
+
+fn big_sigma_1(x: u32) -> u32 {
+    x.rotate_right(6) ^ x.rotate_right(11) ^ x.rotate_right(25)
+}
+
+fn small_sigma_0(x: u32) -> u32 {
+    x.rotate_right(7) ^ x.rotate_right(18) ^ (x >> 3)
+}
+
+fn small_sigma_1(x: u32) -> u32 {
+    x.rotate_right(17) ^ x.rotate_right(19) ^ (x >> 10)
+}
+
+fn octets(hash: &[u32; 8]) -> [u8; 32] {
+    let mut digest = [0; 32];
+    for (octets, word) in digest.chunks_exact_mut(4).zip(hash) {
+        octets.copy_from_slice(&word.to_be_bytes());
+    }
+    digest
+}
+
+#[cfg(test)]
+mod tests {
+    use super::digest;
+    use crate::hex::hex;
+    use crate::messages::{FIPS_448, FIPS_896};
+
+    #[test]
+    fn empty() {
+        assert_eq!(
+            hex(&digest(b"")),
+            "e3b0c44298fc1c149afbf4c8996fb92427ae41e4649b934ca495991b7852b855"
+        );
+    }
+
+    #[test]
+    fn abc() {
+        assert_eq!(
+            hex(&digest(b"abc")),
+            "ba7816bf8f01cfea414140de5dae2223b00361a396177a9cb410ff61f20015ad"
+        );
+    }
+
+    #[test]
+    fn fips_448() {
+        assert_eq!(
+            hex(&digest(FIPS_448)),
+            "248d6a61d20638b8e5c026930c3e6039a33ce45964ff2167f6ecedd419db06c1"
+        );
+    }
+
+    #[test]
+    fn fips_896() {
+        assert_eq!(
+            hex(&digest(FIPS_896)),
+            "cf5b16a778af8380036ce59e7b0492370b249b11e8f07a51afac45037afee9d1"
+        );
+    }
+
+    #[test]
+    fn million_a() {
+        assert_eq!(
+            hex(&digest(&[b'a'; 1_000_000])),
+            "cdc76e5c9914fb9281a1c7e284d73e67f1809a48a497200e046d39ccc7112cd0"
+        );
+    }
+}

@@ -2,7 +2,7 @@
 use mathlib.Core.Path.{_≡_, refl, sym, ap, ap₂, _∙_}
 use mathlib.Core.List.{List, [], _∷_, _++_, append-assoc, append-nil}
 use Prim.Native.Nat.{ℕ, zero, suc, _+_, _-_, _*_, _/_, _%_, _^_, _<_, _≤_}
-use native.Mathlib.Nat.{zero-add, suc-mul, add-mul, add-zero, add-suc, add-assoc, le-of-eq, lt-div-mul-add, mul-add-div-right, mul-div-cancel, zero-mul, one-mul, mul-comm, pow-suc, div-one, div-div-eq-div-mul, div-mul-le-self, div-add-mod'}
+use native.Mathlib.Nat.{suc-mul, add-mul, add-zero, add-suc, add-assoc, le-of-eq, lt-div-mul-add, mul-add-div-right, mul-div-cancel, zero-mul, one-mul, mul-comm, pow-suc, div-one, div-div-eq-div-mul, div-mul-le-self, div-add-mod'}
 use native.Mathlib.Numerals.{add-one}
 use native.Mathlib.Omega.{arith}
 use lib.ListN.{length, take, drop, set, replicate, length-drop, length-append, length-replicate, length-set, take-append-drop, List·getD-append}
@@ -73,6 +73,16 @@ grown-more f N t n ws w w' k h b e g =
       words = rw (k, e) (grow-more f 16 t ws w l (g .words) b);
     }
 
+-- four words more of the schedule, where f looks only at the words before its own
+pub grown-four : (f : ℕ → List ℕ → ℕ) (N t n : ℕ) (ws w w₁ w₂ w₃ w₄ : List ℕ) → ((t : ℕ) (w : List ℕ) → f t w ≡ f t (take (t + 16) w)) → n ≡ t + 4 → t + 19 < N
+    → w₁ ≡ set w (t + 16) (f t w) → w₂ ≡ set w₁ (t + 1 + 16) (f (t + 1) w₁) → w₃ ≡ set w₂ (t + 2 + 16) (f (t + 2) w₂) → w₄ ≡ set w₃ (t + 3 + 16) (f (t + 3) w₃)
+    → Grown f N t ws w → Grown f N n ws w₄
+grown-four f N t n ws w w₁ w₂ w₃ w₄ b k h e₁ e₂ e₃ e₄ g =
+    grown-more f N (t + 3) n ws w₃ w₄ (omega arith) (omega arith) (b (t + 3) w₃) e₄
+    (grown-more f N (t + 2) (t + 3) ws w₂ w₃ (omega arith) (omega arith) (b (t + 2) w₂) e₃
+    (grown-more f N (t + 1) (t + 2) ws w₁ w₂ (omega arith) (omega arith) (b (t + 1) w₁) e₂
+    (grown-more f N t (t + 1) ws w w₁ refl (omega arith) (b t w) e₁ g)))
+
 -- the whole array, once every word stands
 pub grown-all : (f : ℕ → List ℕ → ℕ) (N t : ℕ) (ws w : List ℕ) → N ≡ t + 16 → Grown f N t ws w → w ≡ grow f t ws
 grown-all f N t ws w k g = sym (take-all (t + 16) w (omega (arith, g .full))) ∙ g .words
@@ -131,12 +141,11 @@ words-append b n (suc k) x y e =
     let j : (n + k) * b ≡ length x + k * b = add-mul n k b ∙ ap (λ (z : ℕ). z + k * b) (sym e) in
     rw (add-suc n k, words-append b n k x y e, j, number-back b (k * b) x y) (append-assoc (words b n x) (words b k y) (number b y (k * b) ∷ []))
 
--- the words of two runs of bytes, loaded one behind the other
-pub load-then : (b n k : ℕ) (x y w : List ℕ) {w₁ w₂ : List ℕ} → length x ≡ n * b → w₁ ≡ sets w 0 (words b n x) → w₂ ≡ sets w₁ n (words b k y)
-    → w₂ ≡ sets w 0 (words b (n + k) (x ++ y))
-load-then b n k x y w e p q =
-    let l : 0 + length (words b n x) ≡ n = zero-add (length (words b n x)) ∙ length-words b n x in
-    q ∙ (rw (p, words-append b n k x y e, sets-append (words b n x) w (words b k y) 0, l))
+-- the words of y, written right behind those of x, are those of the two
+pub words-behind : (b k n at : ℕ) (x y w w₁ w₂ : List ℕ) → length x ≡ k * b → w₁ ≡ sets w at (words b k x) → w₂ ≡ sets w₁ (at + k) (words b n y)
+    → w₂ ≡ sets w at (words b (k + n) (x ++ y))
+words-behind b k n at x y w w₁ w₂ l e₁ e₂ =
+    e₂ ∙ (rw (e₁, words-append b k n x y l, sets-append (words b k x) w (words b n y) at, length-words b k x))
 
 -- a number's bytes, the lowest apart
 pub bytes-snoc : (n x : ℕ) → bytes (suc n) x ≡ bytes n (x / 256) ++ (x % 256 ∷ [])
@@ -269,6 +278,36 @@ closing B L n z e rest d {d'} h m hz he room put =
     let k : rest ++ ending z L n ≡ rest ++ padding B L n = ap (λ (i : ℕ). rest ++ ending i L n) (hz ∙ sym same) in
     let l : length (rest ++ padding B L n) ≡ e = ap (λ (i : ℕ). length (rest ++ padding B L i)) q ∙ length-rest B L (n / B) rest h ∙ sym he in
     ap (λ (i : ℕ). take i d') (sym (ap length k ∙ l)) ∙ part-put room put ∙ k
+
+-- what `&m[k..]` lends
+pub lent-rest : (k : ℕ) (m : List ℕ) → take (length m - k) (drop k m) ≡ drop k m
+lent-rest k m = take-all (length m - k) (drop k m) (omega (arith, length-drop k m))
+
+-- the end of the last blocks, where `rest` bytes are left
+pub end-of : (B L rest : ℕ) → (rest + L) / B * B + B ≡ blocks B L rest * B
+unfolding blocks
+end-of B L rest = rw (add-mul ((rest + L) / B) 1 B, one-mul B)
+
+-- the zero bytes in them
+pub zeros-of : (B L rest : ℕ) → (rest + L) / B * B + B - (L + 1) - rest ≡ zeros B L rest
+unfolding zeros
+zeros-of B L rest = rw (← end-of B L rest) (omega arith)
+
+-- an array that holds the last blocks has room for them
+pub room-last : (B L n : ℕ) (rest d : List ℕ) → 0 < B → (length rest + L) / B * B + B ≤ length d
+    → Room d 0 (rest ++ ending ((length rest + L) / B * B + B - (L + 1) - length rest) L n)
+unfolding ending
+room-last B L n rest d h g =
+    let l : length rest + (1 + zeros B L (length rest) + L) ≡ (length rest + L) / B * B + B = whole B L (length rest) h ∙ sym (end-of B L (length rest)) in
+    record { fits = rw zeros-of (simp (length-append, length-replicate, length-bytes) (omega arith)) }
+
+-- what those blocks give is the hash value after the padded message
+pub last-blocks : {S : Type 0} (f : S → List ℕ → S) (B L n : ℕ) (rest d : List ℕ) (s : S) {d' : List ℕ} {r : ℕ} {v : S} → 0 < B → n % B ≡ length rest
+    → (length rest + L) / B * B + B ≤ length d → Put d 0 (rest ++ ending ((length rest + L) / B * B + B - (L + 1) - length rest) L n) r d'
+    → v ≡ absorbed f B (take ((length rest + L) / B * B + B) d') s → v ≡ finished f B L n rest s
+unfolding finished
+last-blocks f B L n rest d s h m g p e =
+    e ∙ ap (λ (x : List ℕ). absorbed f B x s) (closing B L n _ _ rest d h m (zeros-of B L (length rest)) (end-of B L (length rest)) (room-last B L n rest d h g) p)
 
 -- a message whose padding still fits its block
 pub hash-one : {S : Type 0} (f : S → List ℕ → S) (B L : ℕ) (m : List ℕ) (s : S) → 0 < B → blocks B L (length m) ≡ 1

@@ -1,67 +1,18 @@
 -- The rounds in their quarters, the schedule, the digest's bytes, and the block of a register and a digest. Assumes nothing.
 use mathlib.Core.Path.{_≡_, refl, sym, ap, _∙_}
 use mathlib.Core.List.{List, _++_, append-assoc}
-use Prim.Native.Nat.{ℕ, _+_, _-_, _*_, _/_, _%_, _<_, _≤_}
-use native.Mathlib.Nat.{add-mul, one-mul}
+use Prim.Native.Nat.{ℕ, _+_, _-_, _*_, _/_, _<_, _≤_}
 use native.Mathlib.Omega.{arith}
 use borrow.Author.Tests.{lt-ltb, le-ltb}
-use lib.ListN.{length, take, drop, getD, set, length-append, length-drop, length-replicate}
-use lib.Seq.{sets, getD-take, take-all}
+use lib.ListN.{length, take, drop, getD, length-append}
+use lib.Seq.{sets, getD-take}
 use Rattle.wire.specs.Bytes.{Put, Room}
-use Rattle.wire.proofs.Laws.{sets-append, put-length, put-all}
+use Rattle.wire.proofs.Laws.{put-length, put-all}
 use Rattle.padding.specs.Words.{ch, maj, parity, run, steps, words, bytes}
-use Rattle.padding.specs.Padding.{blocks, zeros, ending, padding, absorbed, finished}
-use Rattle.padding.proofs.Laws.{steps-more, steps-same, run-steps, Grown, grown-more, take-sets, words-append, length-words, length-bytes, hash-one, whole, closing, in-parts}
+use Rattle.padding.specs.Padding.{blocks, padding, absorbed, finished}
+use Rattle.padding.proofs.Laws.{steps-more, steps-same, run-steps, take-sets, length-words, length-bytes, hash-one, in-parts, lent-rest}
 use Rattle.sha1.specs.Sha1.{next, step, stepOf, turn, f, K, expanded, rounds, compress, output, H₀, sha1}
 use Rattle.sha1.specs.declared.State.{State}
-
--- ---- what holds of every hash of FIPS 180-4
-
--- four words more of the schedule, where f looks only at the words before its own
-pub grown-four : (f : ℕ → List ℕ → ℕ) (N t n : ℕ) (ws w w₁ w₂ w₃ w₄ : List ℕ) → ((t : ℕ) (w : List ℕ) → f t w ≡ f t (take (t + 16) w)) → n ≡ t + 4 → t + 19 < N
-    → w₁ ≡ set w (t + 16) (f t w) → w₂ ≡ set w₁ (t + 1 + 16) (f (t + 1) w₁) → w₃ ≡ set w₂ (t + 2 + 16) (f (t + 2) w₂) → w₄ ≡ set w₃ (t + 3 + 16) (f (t + 3) w₃)
-    → Grown f N t ws w → Grown f N n ws w₄
-grown-four f N t n ws w w₁ w₂ w₃ w₄ b k h e₁ e₂ e₃ e₄ g =
-    grown-more f N (t + 3) n ws w₃ w₄ (omega arith) (omega arith) (b (t + 3) w₃) e₄
-    (grown-more f N (t + 2) (t + 3) ws w₂ w₃ (omega arith) (omega arith) (b (t + 2) w₂) e₃
-    (grown-more f N (t + 1) (t + 2) ws w₁ w₂ (omega arith) (omega arith) (b (t + 1) w₁) e₂
-    (grown-more f N t (t + 1) ws w w₁ refl (omega arith) (b t w) e₁ g)))
-
--- the words of y, written right behind those of x, are those of the two
-pub words-behind : (b k n at : ℕ) (x y w w₁ w₂ : List ℕ) → length x ≡ k * b → w₁ ≡ sets w at (words b k x) → w₂ ≡ sets w₁ (at + k) (words b n y)
-    → w₂ ≡ sets w at (words b (k + n) (x ++ y))
-words-behind b k n at x y w w₁ w₂ l e₁ e₂ =
-    e₂ ∙ (rw (e₁, words-append b k n x y l, sets-append (words b k x) w (words b n y) at, length-words b k x))
-
--- what `&m[k..]` lends
-pub lent-rest : (k : ℕ) (m : List ℕ) → take (length m - k) (drop k m) ≡ drop k m
-lent-rest k m = take-all (length m - k) (drop k m) (omega (arith, length-drop k m))
-
--- the end of the last blocks, where `rest` bytes are left
-pub end-of : (B L rest : ℕ) → (rest + L) / B * B + B ≡ blocks B L rest * B
-unfolding blocks
-end-of B L rest = rw (add-mul ((rest + L) / B) 1 B, one-mul B)
-
--- the zero bytes in them
-pub zeros-of : (B L rest : ℕ) → (rest + L) / B * B + B - (L + 1) - rest ≡ zeros B L rest
-unfolding zeros
-zeros-of B L rest = rw (← end-of B L rest) (omega arith)
-
--- an array that holds the last blocks has room for them
-pub room-last : (B L n : ℕ) (rest d : List ℕ) → 0 < B → (length rest + L) / B * B + B ≤ length d
-    → Room d 0 (rest ++ ending ((length rest + L) / B * B + B - (L + 1) - length rest) L n)
-unfolding ending
-room-last B L n rest d h g =
-    let l : length rest + (1 + zeros B L (length rest) + L) ≡ (length rest + L) / B * B + B = whole B L (length rest) h ∙ sym (end-of B L (length rest)) in
-    record { fits = rw zeros-of (simp (length-append, length-replicate, length-bytes) (omega arith)) }
-
--- what those blocks give is the hash value after the padded message
-pub last-blocks : {S : Type 0} (f : S → List ℕ → S) (B L n : ℕ) (rest d : List ℕ) (s : S) {d' : List ℕ} {r : ℕ} {v : S} → 0 < B → n % B ≡ length rest
-    → (length rest + L) / B * B + B ≤ length d → Put d 0 (rest ++ ending ((length rest + L) / B * B + B - (L + 1) - length rest) L n) r d'
-    → v ≡ absorbed f B (take ((length rest + L) / B * B + B) d') s → v ≡ finished f B L n rest s
-unfolding finished
-last-blocks f B L n rest d s h m g p e =
-    e ∙ ap (λ (x : List ℕ). absorbed f B x s) (closing B L n _ _ rest d h m (zeros-of B L (length rest)) (end-of B L (length rest)) (room-last B L n rest d h g) p)
 
 -- ---- the rounds
 

@@ -5,9 +5,9 @@ use native.Mathlib.Omega.{arith}
 use borrow.Author.Needs.{needs}
 use lib.ListN.{take}
 use Rattle.padding.specs.Words.{run}
-use Rattle.padding.proofs.Laws.{Grown, grown-all}
+use Rattle.padding.proofs.Laws.{Grown, grown-all, grown-four}
 use Rattle.sha1.specs.Sha1.{next, expanded}
-use Rattle.sha1.proofs.Laws.{next-take, grown-four}
+use Rattle.sha1.proofs.Laws.{next-take}
 use Rattle.sha1.proofs.expand.Statement.{statement}
 use Rattle.sha1.proofs.expand.Tie as tie
 

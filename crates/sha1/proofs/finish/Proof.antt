@@ -1,10 +1,11 @@
 -- `finish`: what `pad` writes are the last blocks, which fit the array, and what they give is stored whole.
+use Rattle.padding.proofs.Laws.{room-last, last-blocks}
 use mathlib.Core.Path.{refl, sym, ap, _∙_}
 use native.Mathlib.Omega.{arith}
 use borrow.Author.Needs.{needs}
 use lib.Seq.{length-take-le}
 use Rattle.sha1.specs.Sha1.{output, compress}
-use Rattle.sha1.proofs.Laws.{room-output, put-output, room-last, last-blocks}
+use Rattle.sha1.proofs.Laws.{room-output, put-output}
 use Rattle.sha1.proofs.finish.Statement.{statement}
 use Rattle.sha1.proofs.finish.Tie as tie
 

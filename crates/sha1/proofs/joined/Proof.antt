@@ -1,4 +1,5 @@
 -- `joined`: the words of the register, of the digest and of their padding, each behind the other, are the block's.
+use Rattle.padding.proofs.Laws.{words-behind}
 use mathlib.Core.List.{_++_}
 use mathlib.Core.Path.{ap, _∙_}
 use native.Mathlib.Omega.{arith}
@@ -6,7 +7,7 @@ use borrow.Author.Needs.{needs}
 use lib.ListN.{length-append}
 use Rattle.padding.specs.Padding.{padding}
 use Rattle.sha1.specs.Sha1.{rounds, H₀}
-use Rattle.sha1.proofs.Laws.{compressed, words-behind}
+use Rattle.sha1.proofs.Laws.{compressed}
 use Rattle.sha1.proofs.joined.Statement.{statement}
 use Rattle.sha1.proofs.joined.Tie as tie
 

@@ -1,13 +1,15 @@
+use Rattle.padding.proofs.Laws.{lent-rest}
+use lib.ListN.{length, drop}
+use mathlib.Core.Path.{_≡_, ap, _∙_}
+use Prim.Native.Nat.{_*_, _/_}
 -- `sha256::digest` meets its contract. A message is absorbed and finished in parts. Assumes nothing.
-use lib.Seq.{take-all}
-use lib.ListN.{length-drop}
 use Rattle.sha256.specs.Sha256.{P, H₀, value, sha256}
 use Rattle.padding.proofs.Laws.{in-parts}
 use Rattle.padding.specs.Sha2.{compress, output}
 use Rattle.padding.specs.Padding.{absorbed, finished}
-use lib.ListN.{length, take, drop}
+use lib.ListN.{length, drop}
 use mathlib.Core.Path.{_≡_, ap, _∙_}
-use Prim.Native.Nat.{_-_, _*_, _/_}
+use Prim.Native.Nat.{_*_, _/_}
 use native.Mathlib.Omega.{arith}
 use borrow.Author.Needs.{needs}
 use Rattle.sha256.proofs.digest.Statement.{statement}
@@ -39,12 +41,10 @@ unfolding sha256
 returns c =
     let m = c .before .before .before .before .before .args .m .now in
     let f = compress P in
-    let full = length m / 64 * 64 in
-    let rest : take (length m - full) (drop full m) ≡ drop full m = take-all (length m - full) (drop full m) (omega (arith, length-drop full m)) in
     let state : value (c .before .before .absorb .result) ≡ absorbed f 64 m H₀ = c .before .before .absorb .ensures ∙ ap (absorbed f 64 m) (c .before .before .before .start .ensures) in
     c .finish .ensures ∙ ap (output P)
-    (ap (λ r. finished f 64 8 (length m) r (value (c .before .before .absorb .result))) rest ∙ ap (finished f 64 8 (length m) (drop full m)) state
-    ∙ in-parts f 64 8 m H₀ (omega arith))
+    (ap (λ r. finished f 64 8 (length m) r (value (c .before .before .absorb .result))) (lent-rest (length m / 64 * 64) m)
+    ∙ ap (finished f 64 8 (length m) (drop (length m / 64 * 64) m)) state ∙ in-parts f 64 8 m H₀ (omega arith))
 
 pub digest-spec : {M : Type 1} → statement M
 digest-spec =

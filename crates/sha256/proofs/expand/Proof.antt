@@ -1,6 +1,10 @@
+use Rattle.padding.proofs.Laws.{grown-four}
+use lib.ListN.{take}
+use mathlib.Core.Path.{_≡_, refl}
+use Prim.Native.Nat.{_+_, _-_, _*_, _≤_}
 -- `sha256::expand` meets its contract. The loop's invariant: the first i * 4 + 16 words are the schedule's. Assumes nothing.
 use Rattle.sha256.specs.Sha256.{P}
-use Rattle.padding.proofs.Laws.{Grown, grown-more, grown-all, next-take}
+use Rattle.padding.proofs.Laws.{Grown, grown-all, next-take}
 use Rattle.padding.specs.Sha2.{next, expanded}
 use Rattle.padding.specs.Words.{run}
 use lib.ListN.{take}
@@ -53,12 +57,10 @@ loop-less c = search needs
 
 loop-again : tie.Need-loop-again Inv-loop μ-loop
 loop-again c =
-    let i = c .before .before .before .before .before .before .before .before .before .before .before .before .before .before .before .before .before .loop .i in
-    let g₀ = c .before .before .before .before .before .before .before .before .before .before .before .before .before .before .before .before .before .loop .inv .1 in
-    let g₁ = grown-more (next P) 64 (i * 4) (i * 4 + 1) _ _ _ refl (omega arith) (next-take P (i * 4) _) (c .before .before .before .before .before .before .before .before .before .before .before .before .before .before .expand-one .ensures) g₀ in
-    let g₂ = grown-more (next P) 64 (i * 4 + 1) (i * 4 + 2) _ _ _ (omega arith) (omega arith) (next-take P (i * 4 + 1) _) (c .before .before .before .before .before .before .before .before .before .before .expand-one2 .ensures) g₁ in
-    let g₃ = grown-more (next P) 64 (i * 4 + 2) (i * 4 + 3) _ _ _ (omega arith) (omega arith) (next-take P (i * 4 + 2) _) (c .before .before .before .before .before .before .expand-one3 .ensures) g₂ in
-    (search needs, grown-more (next P) 64 (i * 4 + 3) ((i + 1) * 4) _ _ _ (omega arith) (omega arith) (next-take P (i * 4 + 3) _) (c .before .before .expand-one4 .ensures) g₃)
+    let i = c .before .before .before .before .before .before .before .before .before .before .before .before .before .before .before .before .before .loop .i in (
+      search needs,
+      grown-four (next P) 64 (i * 4) ((i + 1) * 4) _ _ _ _ _ _ (next-take P) (omega arith) (omega arith) (c .before .before .before .before .before .before .before .before .before .before .before .before .before .before .expand-one .ensures) (c .before .before .before .before .before .before .before .before .before .before .expand-one2 .ensures) (c .before .before .before .before .before .before .expand-one3 .ensures) (c .before .before .expand-one4 .ensures) (c .before .before .before .before .before .before .before .before .before .before .before .before .before .before .before .before .before .loop .inv .1),
+    )
 
 same-length : tie.Need-same-length Inv-loop μ-loop
 same-length c = search needs

@@ -1,16 +1,14 @@
+use Rattle.padding.proofs.Laws.{room-last, last-blocks}
+use lib.ListN.{length}
+use mathlib.Core.Path.{_≡_, sym, ap, _∙_}
 -- `sha256::finish` meets its contract. What stands in the buffer up to its end is the rest and its padding. Assumes nothing.
 use Rattle.sha256.proofs.Laws.{length-output}
 use Rattle.sha256.specs.Sha256.{P, value}
-use Rattle.padding.proofs.Laws.{length-ending, closing}
 use Rattle.padding.specs.Sha2.{compress, output}
-use Rattle.padding.specs.Padding.{blocks, zeros, padding, absorbed, finished}
 use Rattle.wire.proofs.Laws.{put-all}
 use lib.Seq.{length-take-le}
-use lib.ListN.{length-append}
-use lib.ListN.{length, take}
-use mathlib.Core.List.{_++_}
+use lib.ListN.{length}
 use mathlib.Core.Path.{_≡_, sym, ap, _∙_}
-use Prim.Native.Nat.{_+_, _-_, _*_, _/_}
 use native.Mathlib.Omega.{arith}
 use borrow.Author.Needs.{needs}
 use Rattle.sha256.proofs.finish.Statement.{statement}
@@ -35,10 +33,7 @@ sub-pad-2 : tie.Need-sub-pad-2
 sub-pad-2 c = search needs
 
 pad-requires : tie.Need-pad-requires
-pad-requires c κs = (
-  omega arith,
-  record { fits = simp (length-append, length-ending) (omega arith) },
-)
+pad-requires c κs = (search needs, room-last 64 8 (c .before .before .args .n) (c .before .before .args .rest .now) _ (omega arith) (omega arith))
 
 array-share-prefix-t : tie.Need-array-share-prefix-t
 array-share-prefix-t c = search needs
@@ -58,15 +53,10 @@ store-requires : tie.Need-store-requires
 store-requires c κs = record { fits = omega (arith, length-output (value (c .before .absorb .result))) }
 
 returns : tie.Need-returns
-unfolding finished zeros blocks
-returns c = let s = c .before .before .before .before .before .before .before .before .before in
-    let rest = s .args .rest .now in
-    let n = s .args .n in
-    let e = (length rest + 8) / 64 * 64 + 64 in
-    let t : take e (c .before .before .before .before .before .before .pad .last .0) ≡ rest ++ padding 64 8 n =
-    closing 64 8 n (e - 9 - length rest) e rest _ (omega arith) (s .pre) (omega arith) (omega arith) (record { fits = simp (length-append, length-ending) (omega arith) }) (c .before .before .before .before .before .before .pad .ensures) in
+returns c =
+    let s = c .before .before .before .before .before .before .before .before .before in
     put-all (c .before .store .ensures) (length-output (value (c .before .before .before .absorb .result)))
-    ∙ ap (output P) (c .before .before .before .absorb .ensures ∙ ap (λ m. absorbed (compress P) 64 m (value (s .args .s))) t)
+    ∙ ap (output P) (last-blocks (compress P) 64 8 (s .args .n) (s .args .rest .now) _ (value (s .args .s)) (omega arith) (s .pre) (omega arith) (c .before .before .before .before .before .before .pad .ensures) (c .before .before .before .absorb .ensures))
 
 pub finish-spec : {M : Type 1} → statement M
 finish-spec =

@@ -1,6 +1,10 @@
+use Rattle.padding.proofs.Laws.{words-behind}
+use lib.ListN.{take}
+use mathlib.Core.List.{_++_}
+use mathlib.Core.Path.{_≡_, ap, _∙_}
 -- `sha256::joined` meets its contract. The words of register and digest, loaded one behind the other, are those of the joined bytes. Assumes nothing.
 use Rattle.sha256.specs.Sha256.{P, value}
-use Rattle.padding.proofs.Laws.{take-sets, length-words, load-then}
+use Rattle.padding.proofs.Laws.{take-sets, length-words}
 use Rattle.padding.specs.Sha2.{expanded, rounds, compress}
 use Rattle.padding.specs.Words.{words}
 use lib.ListN.{take}
@@ -36,7 +40,7 @@ returns c =
     let m = s .args .register .now ++ s .args .digest .now in
     let w = s .args .w .now in
     let l : take 16 (c .before .before .before .before .before .before .before .before .before .load2 .last .0) ≡ words 4 16 m =
-    ap (take 16) (load-then 4 8 8 (s .args .register .now) (s .args .digest .now) w (s .pre .2) (c .before .before .before .before .before .before .before .before .before .before .before .before .before .load .ensures) (c .before .before .before .before .before .before .before .before .before .load2 .ensures))
+    ap (take 16) (words-behind 4 8 8 0 (s .args .register .now) (s .args .digest .now) w _ _ (s .pre .2) (c .before .before .before .before .before .before .before .before .before .before .before .before .before .load .ensures) (c .before .before .before .before .before .before .before .before .before .load2 .ensures))
     ∙ take-sets 16 w (words 4 16 m) (length-words 4 16 m) (omega (arith, s .pre .0)) in
     c .all-rounds .ensures ∙ ap (λ ws. rounds P ws (value (c .before .start .result))) (c .before .before .before .before .before .expand .ensures ∙ ap (expanded P) l)
     ∙ ap (rounds P (expanded P (words 4 16 m))) (c .before .start .ensures)

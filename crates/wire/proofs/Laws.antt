@@ -171,6 +171,34 @@ num-put w n h p = ap unle (rw length-le at (part-put h p)) ∙ unle-le w n
 pub num-put-small : {d d' : List ℕ} {at r : ℕ} (w n : ℕ) → n < 256 ^ w → Room d at (le w n) → Put d at (le w n) r d' → num d' at w ≡ n
 num-put-small w n b h p = num-put w n h p ∙ mod-eq-of-lt b
 
+-- no second answer, and no second content, meets what a writer states
+pub put-unique : {d bs d' d″ : List ℕ} {at r r' : ℕ} → Put d at bs r d' → Put d at bs r' d″ → (r ≡ r') × (d' ≡ d″)
+put-unique p q = (p .next ∙ sym (q .next), p .bytes ∙ sym (q .bytes))
+
+-- ---- a loop of writers: `all` is to be written at place at of d₀, d is the content so far, p the place, and bs what is left to write
+
+pub record Left (d₀ : List ℕ) (at : ℕ) (all d : List ℕ) (p : ℕ) (bs : List ℕ) : Type 0 where
+  pub room : Room d p bs
+  pub same : sets d p bs ≡ sets d₀ at all
+  pub ends : p + length bs ≡ at + length all
+
+-- before the first turn
+pub left-all : {d bs : List ℕ} {at : ℕ} → Room d at bs → Left d at bs d at bs
+left-all h = record { room = h; same = refl; ends = refl }
+
+-- a turn that writes xs
+pub left-more : (xs ys : List ℕ) {d₀ all d d' : List ℕ} {at p p' : ℕ} → Left d₀ at all d p (xs ++ ys) → Put d p xs p' d' → Left d₀ at all d' p' ys
+left-more xs ys {d = d} {p = p} l w =
+    record {
+      room = room-then xs ys (l .room) w;
+      same = rw (w .bytes, w .next) (sym (sets-append xs d ys p) ∙ l .same);
+      ends = omega (arith, l .ends, w .next, length-append xs ys);
+    }
+
+-- after the last turn
+pub left-none : {d₀ all d : List ℕ} {at p : ℕ} → Left d₀ at all d p [] → Put d₀ at all p d
+left-none {p = p} l = record { next = sym (add-zero p) ∙ l .ends; bytes = l .same }
+
 -- ---- a part that was lent
 
 -- what a callee that was lent `&mut l[a..e]` left there, m, said of the whole: a run of stores from a on

@@ -7,7 +7,8 @@ pub const FIPS_448: &[u8] = b"abcdbcdecdefdefgefghfghighijhijkijkljklmklmnlmnomn
 pub const FIPS_896: &[u8] = b"abcdefghbcdefghicdefghijdefghijkefghijklfghijklm\
     ghijklmnhijklmnoijklmnopjklmnopqklmnopqrlmnopqrsmnopqrstnopqrstu";
 
-const FOX: &[u8] = b"The quick brown fox jumps over the lazy dog";
+/// The sentence of 001's request.
+pub const FOX: &[u8] = b"The quick brown fox jumps over the lazy dog";
 
 /// The longest patterned message that is listed.
 pub const LONGEST_PATTERN: usize = 300;

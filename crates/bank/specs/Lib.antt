@@ -1,0 +1,3 @@
+pub mod Bank
+pub mod Registers
+pub mod Examples

@@ -1,136 +1,145 @@
-//! Prints what the stores hold after each of a fixed list of requests, and
-//! how whole, damaged and cut entries are read back.
+//! Prints what generated entries make of registers and stores, and what is
+//! read back of them, with a byte damaged.
 
 mod generator;
-mod parts;
 
-use generator::Generator;
-use model::entry::{header_bitmap, read_1_2, read_agile, Entry, Refusal};
+use generator::{Case, Generator};
+use model::bank::{digests, extend, reset, Digest, REGISTER_BYTES};
+use model::entry::{
+    agile_entry, entry_1_2, header, header_bitmap, read_1_2, read_agile, Entry, Refusal,
+};
 use model::hex::hex;
 use model::sha256;
-use model::store::Store;
-use parts::Parts;
+use model::store::{Store, Table};
 use std::io::{self, BufWriter, Write};
-use std::ops::Range;
 
-/// Requests for each bitmap.
-const REQUESTS: usize = 80;
+/// Cases for each bitmap.
+const CASES: usize = 200;
 
-/// The request from which on the table takes entries.
-const ARMED_FROM: usize = 20;
+/// The byte that a buffer is full of before.
+const UNWRITTEN: u8 = 165;
 
 fn main() -> io::Result<()> {
     let mut out = BufWriter::new(io::stdout().lock());
     let mut generator = Generator::new();
     for bitmap in 1..=3 {
-        let mut parts = Parts::open(bitmap);
-        for k in 0..REQUESTS {
-            parts.measure(&generator.request(k), k >= ARMED_FROM);
-            print_state(&mut out, &parts, k)?;
+        let mut registers = vec![0; REGISTER_BYTES];
+        reset(&mut registers);
+        for k in 0..CASES {
+            let case = generator.case(bitmap, k);
+            print_case(&mut out, &case, &mut registers)?;
         }
-        print_entries(&mut out, &parts)?;
-        print_damaged(&mut out, &parts)?;
-        print_cut(&mut out, &parts)?;
-        print_headers(&mut out, &parts)?;
+    }
+    for bitmap in 1..=3 {
+        print_headers(&mut out, bitmap)?;
     }
     out.flush()
 }
 
-fn print_state(out: &mut impl Write, parts: &Parts, k: usize) -> io::Result<()> {
-    let Parts { bitmap, table, .. } = parts;
-    writeln!(
-        out,
-        "{bitmap} {k} {} {} {} {} {} {}",
-        log_text(&parts.log12),
-        log_text(&parts.agile),
-        table.store.used,
-        u8::from(table.store.closed),
-        table.count,
-        hex(&sha256::digest(&parts.all))
-    )
-}
-
-/// Used length, closed and last entry.
-fn log_text(log: &Store) -> String {
-    let last = log.last.map_or("-".to_string(), |place| place.to_string());
-    format!("{} {} {last}", log.used, u8::from(log.closed))
-}
-
-fn print_entries(out: &mut impl Write, parts: &Parts) -> io::Result<()> {
-    let bitmap = parts.bitmap;
-    let log = parts.agile_log();
-    print_walk(
-        out,
-        &format!("{bitmap} agile"),
-        parts.header_len()..log.len(),
-        |place| read_agile(log, place, bitmap),
-    )?;
-    if parts.keeps_1_2() {
-        let log = parts.log_1_2();
-        print_walk(out, &format!("{bitmap} old"), 0..log.len(), |place| {
-            read_1_2(log, place)
-        })?;
+fn print_case(out: &mut impl Write, case: &Case, registers: &mut [u8]) -> io::Result<()> {
+    let digests = digests(case.bitmap, &case.data);
+    for digest in &digests {
+        extend(registers, case.register, digest);
     }
-    Ok(())
+    let hash = hex(&sha256::digest(registers));
+    writeln!(out, "{} {} registers {hash}", case.bitmap, case.number)?;
+    print_old(out, case, &digests)?;
+    print_agile(out, case, &digests)?;
+    print_table(out, case, &digests)
 }
 
-/// One line for each entry of a log, up to its end or a bad entry.
-fn print_walk(
+fn print_old(out: &mut impl Write, case: &Case, digests: &[Digest]) -> io::Result<()> {
+    let sha1 = digests.iter().find(|digest| digest.bank.bit == 1);
+    let zeros = vec![0; 20];
+    let digest = sha1.map_or(&zeros, |digest| &digest.bytes);
+    let entry = entry_1_2(case.register, case.kind, digest, &case.event);
+    let buffer = offer(out, case, "old", &entry)?;
+    let found = read_1_2(&damaged(case, buffer), case.used);
+    print_found(out, case, "oldread", found)
+}
+
+fn print_agile(out: &mut impl Write, case: &Case, digests: &[Digest]) -> io::Result<()> {
+    let entry = agile_entry(case.register, case.kind, digests, &case.event);
+    let buffer = offer(out, case, "agile", &entry)?;
+    let found = read_agile(&damaged(case, buffer), case.used, case.bitmap);
+    print_found(out, case, "agileread", found)
+}
+
+/// Offers an entry to a log, and gives the log's buffer.
+fn offer(out: &mut impl Write, case: &Case, name: &str, entry: &[u8]) -> io::Result<Vec<u8>> {
+    let mut buffer = vec![UNWRITTEN; case.buffer_len];
+    let mut store = store(case);
+    store.offer(&mut buffer, entry);
+    let last = store
+        .last
+        .map_or("-".to_string(), |place| place.to_string());
+    let marks = format!("{} {} {last}", store.used, u8::from(store.closed));
+    print_stored(out, case, name, &marks, &buffer)?;
+    Ok(buffer)
+}
+
+fn print_table(out: &mut impl Write, case: &Case, digests: &[Digest]) -> io::Result<()> {
+    let entry = agile_entry(case.register, case.kind, digests, &case.event);
+    let mut buffer = vec![UNWRITTEN; case.buffer_len];
+    let mut table = Table {
+        store: store(case),
+        count: case.number,
+    };
+    table.offer(&mut buffer, &entry);
+    let Store { used, closed, .. } = table.store;
+    let marks = format!("{used} {} {}", u8::from(closed), table.count);
+    print_stored(out, case, "table", &marks, &buffer)
+}
+
+fn store(case: &Case) -> Store {
+    Store {
+        used: case.used,
+        closed: case.closed,
+        last: None,
+    }
+}
+
+fn damaged(case: &Case, mut buffer: Vec<u8>) -> Vec<u8> {
+    if case.damaged < buffer.len() {
+        buffer[case.damaged] = case.byte;
+    }
+    buffer
+}
+
+fn print_stored(
     out: &mut impl Write,
+    case: &Case,
     name: &str,
-    places: Range<usize>,
-    read: impl Fn(usize) -> Result<Entry, Refusal>,
+    marks: &str,
+    buffer: &[u8],
 ) -> io::Result<()> {
-    let mut place = places.start;
-    while place != places.end {
-        let found = read(place);
-        writeln!(out, "{name} {place} {}", entry_text(&found))?;
-        match found {
-            Ok(entry) => place = entry.next,
-            Err(_) => break,
-        }
-    }
-    Ok(())
+    let hash = hex(&sha256::digest(buffer));
+    writeln!(out, "{} {} {name} {marks} {hash}", case.bitmap, case.number)
 }
 
-/// The first entry, with one byte replaced by 255.
-fn print_damaged(out: &mut impl Write, parts: &Parts) -> io::Result<()> {
-    let (bitmap, place) = (parts.bitmap, parts.header_len());
-    for p in 0..100 {
-        let mut log = parts.agile_log().to_vec();
-        log[place + p] = 255;
-        let found = read_agile(&log, place, bitmap);
-        writeln!(out, "{bitmap} damaged {p} {}", entry_text(&found))?;
-    }
-    Ok(())
-}
-
-/// The first entry, with only `n` bytes left after the header.
-fn print_cut(out: &mut impl Write, parts: &Parts) -> io::Result<()> {
-    let (bitmap, place) = (parts.bitmap, parts.header_len());
-    for n in 0..100 {
-        let log = &parts.agile_log()[..place + n];
-        let found = read_agile(log, place, bitmap);
-        writeln!(out, "{bitmap} cut {n} {}", entry_text(&found))?;
-    }
-    Ok(())
-}
-
-/// The bitmap whose header is found in the first `n` bytes.
-fn print_headers(out: &mut impl Write, parts: &Parts) -> io::Result<()> {
-    for n in 0..70 {
-        let found = header_bitmap(&parts.agile_buffer()[..n]);
-        writeln!(out, "{} header {n} {found}", parts.bitmap)?;
-    }
-    Ok(())
-}
-
-fn entry_text(found: &Result<Entry, Refusal>) -> String {
-    match found {
+fn print_found(
+    out: &mut impl Write,
+    case: &Case,
+    name: &str,
+    found: Result<Entry, Refusal>,
+) -> io::Result<()> {
+    let text = match found {
         Ok(entry) => format!(
             "{} {} {} {} {} {}",
             entry.register, entry.kind, entry.digests, entry.event, entry.event_len, entry.next
         ),
-        Err(refusal) => format!("refused {}", *refusal as u8),
+        Err(refusal) => format!("refused {}", refusal as u8),
+    };
+    writeln!(out, "{} {} {name} {text}", case.bitmap, case.number)
+}
+
+/// The bitmap whose header is found in the first `n` bytes of a header.
+fn print_headers(out: &mut impl Write, bitmap: u32) -> io::Result<()> {
+    let mut log = vec![UNWRITTEN; 69];
+    let header = header(bitmap);
+    log[..header.len()].copy_from_slice(&header);
+    for n in 0..=log.len() {
+        writeln!(out, "{bitmap} {n} header {}", header_bitmap(&log[..n]))?;
     }
+    Ok(())
 }

@@ -1,0 +1,4 @@
+pub mod Status
+pub mod State
+pub mod Reading
+pub mod Opening

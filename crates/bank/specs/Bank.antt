@@ -49,6 +49,10 @@ abbrev pub keep : Bool → Bank → List Bank → List Bank
 keep true b bs = b ∷ bs
 keep false b bs = bs
 
+-- 01: "Active bitmap: 1, 2 or 3"
+unfoldable pub valid : ℕ → Bool
+valid bitmap = leb 1 bitmap && leb bitmap 3
+
 -- those of some banks that are active, in their order
 abbrev pub activeOf : ℕ → List Bank → List Bank
 activeOf bitmap [] = []

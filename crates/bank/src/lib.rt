@@ -5,7 +5,7 @@ ghost use Prim.Native.Nat.{_<_, _≤_};
 ghost use lib.ListN.{length};
 ghost use lib.Seq.{sets};
 ghost use Rattle.wire.specs.Bytes.{Put, Room};
-ghost use Rattle.bank.specs.Bank.{resetByte, rows, bankAt, active, banks, sha1Bank, sha256Bank};
+ghost use Rattle.bank.specs.Bank.{resetByte, rows, bankAt, active, valid, banks, sha1Bank, sha256Bank};
 ghost use Rattle.bank.specs.Registers.{digestsLength, registersLength, extendAll, resetFirst, resetAll, digestIn, digestsIn, hashAll};
 ghost use Rattle.bank.specs.Registers as spec;
 
@@ -56,11 +56,6 @@ pub const REGISTERS: usize = 24 * DIGESTS;
 // The registers of every bank, active or not.
 pub struct Registers {
     pub bytes: [u8; REGISTERS],
-}
-
-// One digest of each bank.
-pub struct Digests {
-    pub bytes: [u8; DIGESTS],
 }
 
 fn reset_byte(register: usize) -> u8
@@ -134,6 +129,13 @@ pub fn is_active(bitmap: u32, i: usize) -> bool
     ensures { λ r. ⌜ r ≡ active bitmap (bankAt i) ⌝ }
 {
     bitmap / bit(i) % 2 == 1
+}
+
+// Whether a bitmap names banks of the table and no others, one at least.
+pub fn is_valid(bitmap: u32) -> bool
+    ensures { λ r. ⌜ r ≡ valid bitmap ⌝ }
+{
+    (1 <= bitmap) & (bitmap <= 3)
 }
 
 // How many banks are active.

@@ -1,12 +1,12 @@
 -- What the exported digests' answers come to, over the hash and its digest's length. Assumes nothing.
-use mathlib.Core.Bool.{Bool, true, false, _&&_}
+use mathlib.Core.Bool.{true, false, _&&_}
 use mathlib.Core.List.{List, _++_}
-use mathlib.Core.Path.{_≡_, refl}
+use mathlib.Core.Path.{_≡_}
 use Prim.Native.Nat.{ℕ}
-use native.Mathlib.Omega.{arith}
 use borrow.Author.Tests.{eqb-true, eq-eqb, ne-eqb}
 use lib.Dec.{eqb}
 use lib.ListN.{length}
+use Rattle.wire.proofs.Tests.{both}
 use Rattle.panel.specs.Digests.{onWire, outcome, digested, extended}
 
 module _ (hash : List ℕ → List ℕ) (size : ℕ) where
@@ -27,10 +27,6 @@ module _ (hash : List ℕ → List ℕ) (size : ℕ) where
       → outcome (onWire 2) register ≡ extended hash size register digest
   unfolding extended
   extend-refused register digest h = rw h
-
-both : (a b : Bool) → (a && b) ≡ true → (a ≡ true) × (b ≡ true)
-both true b h = (refl, h)
-both false b h = absurd (let z : _≡_ {A = ℕ} 0 1 = cc in omega arith)
 
 -- what a test of two lengths says of them
 pub lengths : (a b size : ℕ) → (eqb a size && eqb b size) ≡ true → (a ≡ size) × (b ≡ size)

@@ -6,9 +6,9 @@ use Prim.Native.Nat.{ℕ, _+_, _^_}
 use lib.Dec.{eqb}
 use lib.ListN.{length}
 
--- 01, When the panel answers no: "An error status on the wire is 2^63 + the number"
+-- 01, When the panel answers no: "An error status on the wire is 2^63 + the number"; success is 0
 abbrev pub onWire : ℕ → ℕ
-onWire n = 2 ^ 63 + n
+onWire n = cond (eqb n 0) 0 (2 ^ 63 + n)
 
 -- the status, and the final content of the lent buffer
 pub record Outcome : Type 0 where

@@ -1,5 +1,5 @@
 -- `entries::agile_case` meets its contract. Assumes nothing.
-use Rattle.entry.specs.Entry.{eventLimit}
+use Rattle.entry.specs.Entry.{eventLimit, logLimit}
 use native.Mathlib.Omega.{arith}
 use borrow.Author.Needs.{needs}
 use Rattle.entries.proofs.agile_case.Statement.{statement}
@@ -15,7 +15,7 @@ kind-of-requires : tie.Need-kind-of-requires
 kind-of-requires c κs = search needs
 
 offer-agile-requires : tie.Need-offer-agile-requires
-unfolding eventLimit
+unfolding eventLimit logLimit
 offer-agile-requires c κs =
     let s = c .before .before .before .before .before .before .before in (
       omega (arith, c .before .before .before .store-of .ensures, s .pre .0),

@@ -1,5 +1,5 @@
 -- `entries::old_case` meets its contract. Assumes nothing.
-use Rattle.entry.specs.Entry.{eventLimit}
+use Rattle.entry.specs.Entry.{eventLimit, logLimit}
 use Rattle.bank.specs.Bank.{bankAt, table}
 use lib.Seq.{length-take-le}
 use lib.ListN.{length}
@@ -22,7 +22,7 @@ digest-of-requires : tie.Need-digest-of-requires
 digest-of-requires c κs = search needs
 
 offer-old-requires : tie.Need-offer-old-requires
-unfolding eventLimit bankAt table
+unfolding eventLimit logLimit bankAt table
 offer-old-requires c κs =
     let s = c .before .before .before .before .before .before .before .before in (
       omega (arith, c .before .before .before .before .store-of .ensures, s .pre .0),

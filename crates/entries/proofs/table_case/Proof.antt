@@ -1,5 +1,6 @@
 -- `entries::table_case` meets its contract. Assumes nothing.
-use Rattle.entry.specs.Entry.{eventLimit}
+use Rattle.entry.specs.Entry.{eventLimit, logLimit}
+use Rattle.store.specs.Store.{countLimit}
 use native.Mathlib.Omega.{arith}
 use borrow.Author.Needs.{needs}
 use Rattle.entries.proofs.table_case.Statement.{statement}
@@ -15,7 +16,7 @@ kind-of-requires : tie.Need-kind-of-requires
 kind-of-requires c κs = search needs
 
 offer-table-requires : tie.Need-offer-table-requires
-unfolding eventLimit
+unfolding eventLimit logLimit countLimit
 offer-table-requires c κs =
     let s = c .before .before .before .before .before .before .before .before .before in (
       omega (arith, c .before .before .before .before .before .used-of .ensures),

@@ -7,6 +7,7 @@ pub mod entry;
 pub mod hex;
 pub mod messages;
 mod padding;
+pub mod replay;
 pub mod service;
 pub mod sha1;
 pub mod sha256;

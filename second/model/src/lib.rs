@@ -3,6 +3,7 @@
 //! project are compared.
 
 pub mod bank;
+pub mod calls;
 pub mod entry;
 pub mod hex;
 pub mod messages;

@@ -8,6 +8,7 @@ pub mod entry;
 pub mod hex;
 pub mod messages;
 mod padding;
+pub mod random;
 pub mod replay;
 pub mod service;
 pub mod sha1;

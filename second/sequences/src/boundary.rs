@@ -2,7 +2,7 @@
 //! outside.
 
 use crate::asked::{variations, Asked};
-use crate::damage::{self, damages};
+use crate::damage::{self, damages, BITMAP};
 use crate::run::{Run, Sequence};
 use crate::step::{Buffer, Step, BUFFERS};
 use crate::stores::{entry_len, first_used, resized, used};
@@ -17,6 +17,7 @@ pub fn boundaries(run: &mut Run) {
     state_lengths(run);
     requests(run);
     fits(run);
+    full_stores(run);
     readings(run);
     damaged_states(run);
     other_bytes(run);
@@ -113,7 +114,8 @@ fn state_lengths(run: &mut Run) {
     }
 }
 
-/// Every variation of a request, alone, with the PE/COFF flag and extend-only.
+/// Every variation of a request, alone, with the PE/COFF flag and extend-only;
+/// then with a state that doesn't belong.
 fn requests(run: &mut Run) {
     for bitmap in 1..=3 {
         for variation in variations() {
@@ -127,6 +129,11 @@ fn requests(run: &mut Run) {
             }
             sequence.make(read(2));
             sequence.make(good(&mut random).step());
+            let state = sequence.memory().state.get();
+            sequence.make(damage::step(state, &vec![(BITMAP, 4)]));
+            let mut asked = good(&mut random);
+            variation.vary(&mut asked, &mut random);
+            sequence.make(asked.step());
         }
     }
 }
@@ -177,6 +184,29 @@ fn fit(
     sequence.make(read(2));
     sequence.make(Step::Open { bitmap });
     sequence.make(Asked::good(&mut random, 0, 5).with(1).step());
+}
+
+/// Buffers of the most bytes there may be, used almost to their ends.
+fn full_stores(run: &mut Run) {
+    for bitmap in 1..=3 {
+        for full in BUFFERS {
+            let (event, end) = (7, LONGEST as u64);
+            let entry = entry_len(full, bitmap.into(), event) as u64;
+            for used in [end - entry - 1, end - entry, end - entry + 1, end, end + 1] {
+                let lengths = [LONGEST; 3];
+                let (mut sequence, mut random) = opened(run, "full store", bitmap, lengths);
+                sequence.make(read(2));
+                let state = sequence.memory().state.get();
+                let step = damage::step(state, &damage::used(full, used));
+                sequence.make(step);
+                for event in [event, 0] {
+                    sequence.make(Asked::good(&mut random, event, 5).step());
+                    sequence.make(read(1));
+                    sequence.make(read(2));
+                }
+            }
+        }
+    }
 }
 
 /// Every format and record length, before and after entries.

@@ -2,7 +2,7 @@
 //! when", each just inside and just outside, and bytes that encode no state.
 
 use crate::memory::Memory;
-use crate::step::Step;
+use crate::step::{Buffer, Step};
 
 /// A field of a state's layout.
 #[derive(Clone, Copy)]
@@ -74,6 +74,16 @@ pub fn step(state: &[u8], damage: &Damage) -> Step {
         .map(|(field, value)| format!("{} {value}", field.name))
         .collect();
     Step::State(state, words.join(", "))
+}
+
+/// A store used up to `used`; the last byte is a log's last entry.
+pub fn used(buffer: Buffer, used: u64) -> Damage {
+    let log = match buffer {
+        Buffer::Log12 => LOG_1_2,
+        Buffer::Agile => AGILE,
+        Buffer::Table => return vec![(TABLE_USED, used)],
+    };
+    vec![(log.used, used), (log.has_last, 1), (log.last, used - 1)]
 }
 
 /// Every damage to the state that is lent, which has 1,307 bytes.

@@ -6,6 +6,23 @@ use crate::service::{
 };
 use crate::store::Store;
 
+/// The calls of one side of a comparison.
+pub struct Calls {
+    pub open: Open,
+    pub request: Request,
+    pub read_log: ReadLog,
+}
+
+pub type Open = fn(&mut [u8], u32, &mut [u8], &mut [u8], &mut [u8]) -> u64;
+pub type Request = fn(&mut [u8], u64, &[u8], &[u8], &mut [u8], &mut [u8], &mut [u8]) -> u64;
+pub type ReadLog = fn(&mut [u8], u32, &[u8], &[u8], &[u8], &mut [u8]) -> u64;
+
+pub const MODEL: Calls = Calls {
+    open,
+    request,
+    read_log,
+};
+
 /// The state handed out is written, the blank one of a refused opening too.
 pub fn open(
     state: &mut [u8],

@@ -3,8 +3,9 @@
 
 mod panel;
 
+use model::calls::MODEL;
 use model::{sha1, sha256};
-use panel::{Panel, PROVED, SIMPLE};
+use panel::{Panel, PROVED};
 use std::hint::black_box;
 use std::process::ExitCode;
 use std::time::Instant;
@@ -47,7 +48,7 @@ struct Times {
 /// Measures both sides and prints their lines.
 fn measure(rounds: usize, table: &str, armed: bool) {
     let mut proved = Panel::new(PROVED, armed);
-    let mut simple = Panel::new(SIMPLE, armed);
+    let mut simple = Panel::new(MODEL, armed);
     let mut times = [(); 2].map(|_| Times {
         request: Vec::with_capacity(rounds),
         hashes: Vec::with_capacity(rounds),

@@ -1,6 +1,6 @@
 //! A panel with its buffers, opened again whenever they are full.
 
-use model::calls;
+use model::calls::Calls;
 use model::service::{LONGEST, MARKS_BYTES, STATE_BYTES};
 use std::hint::black_box;
 
@@ -11,23 +11,10 @@ const ENTRIES: usize = 900;
 /// 01: size 18, header size 14, version, register 0, type 1; an empty event.
 const REQUEST: [u8; 18] = [18, 0, 0, 0, 14, 0, 0, 0, 1, 0, 0, 0, 0, 0, 1, 0, 0, 0];
 
-/// The calls of one side.
-pub struct Calls {
-    open: fn(&mut [u8], u32, &mut [u8], &mut [u8], &mut [u8]) -> u64,
-    request: fn(&mut [u8], u64, &[u8], &[u8], &mut [u8], &mut [u8], &mut [u8]) -> u64,
-    read_log: fn(&mut [u8], u32, &[u8], &[u8], &[u8], &mut [u8]) -> u64,
-}
-
 pub const PROVED: Calls = Calls {
     open: linked::open,
     request: linked::request,
     read_log: linked::read_log,
-};
-
-pub const SIMPLE: Calls = Calls {
-    open: calls::open,
-    request: calls::request,
-    read_log: calls::read_log,
 };
 
 pub struct Panel {

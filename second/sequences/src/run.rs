@@ -1,7 +1,8 @@
 //! Sequences made on both sides, compared after every call.
 
 use crate::memory::Memory;
-use crate::step::{Step, LIBRARY, MODEL};
+use crate::step::{Step, LIBRARY};
+use model::calls::MODEL;
 
 /// The statuses that can occur, by call, 01, "When the panel answers no".
 const POSSIBLE: [(&str, &[u64]); 3] = [

@@ -1,7 +1,7 @@
 //! The steps of a sequence: what is lent, and the calls.
 
 use crate::memory::{Lent, Memory};
-use model::calls;
+use model::calls::Calls;
 
 /// The buffers of the stores.
 #[derive(Clone, Copy, PartialEq)]
@@ -60,23 +60,10 @@ pub enum Step {
     },
 }
 
-/// The calls of one side.
-pub struct Calls {
-    open: fn(&mut [u8], u32, &mut [u8], &mut [u8], &mut [u8]) -> u64,
-    request: fn(&mut [u8], u64, &[u8], &[u8], &mut [u8], &mut [u8], &mut [u8]) -> u64,
-    read_log: fn(&mut [u8], u32, &[u8], &[u8], &[u8], &mut [u8]) -> u64,
-}
-
 pub const LIBRARY: Calls = Calls {
     open: linked::open,
     request: linked::request,
     read_log: linked::read_log,
-};
-
-pub const MODEL: Calls = Calls {
-    open: calls::open,
-    request: calls::request,
-    read_log: calls::read_log,
 };
 
 impl Step {

@@ -1,8 +1,8 @@
 //! One call of the library, held to what it must answer.
 
-use crate::random::Random;
 use linked::{INVALID_PARAMETER, SUCCESS};
 use model::hex::hex;
+use model::random::Random;
 
 /// A buffer lent to the library, between guards that it must not touch.
 #[derive(Clone, PartialEq)]

@@ -1,7 +1,6 @@
 //! Compares the proved library, linked as C, with the model, call by call.
 
 mod check;
-mod random;
 
 use check::Checks;
 use model::messages::{pattern, LONGEST_PATTERN};

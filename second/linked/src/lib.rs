@@ -29,10 +29,52 @@ extern "C" {
         digest: *const u8,
         digest_len: usize,
     ) -> u64;
+
+    fn sevgharin_open(
+        state: *mut u8,
+        state_len: usize,
+        bitmap: u32,
+        log_1_2: *mut u8,
+        log_1_2_len: usize,
+        agile: *mut u8,
+        agile_len: usize,
+        table: *mut u8,
+        table_len: usize,
+    ) -> u64;
+
+    fn sevgharin_request(
+        state: *mut u8,
+        state_len: usize,
+        flags: u64,
+        request: *const u8,
+        request_len: usize,
+        data: *const u8,
+        data_len: usize,
+        log_1_2: *mut u8,
+        log_1_2_len: usize,
+        agile: *mut u8,
+        agile_len: usize,
+        table: *mut u8,
+        table_len: usize,
+    ) -> u64;
+
+    fn sevgharin_read_log(
+        state: *mut u8,
+        state_len: usize,
+        format: u32,
+        log_1_2: *const u8,
+        log_1_2_len: usize,
+        agile: *const u8,
+        agile_len: usize,
+        table: *const u8,
+        table_len: usize,
+        answer: *mut u8,
+        answer_len: usize,
+    ) -> u64;
 }
 
 // SAFETY, of every call below: each pointer and length come from one live
-// slice, the written one is borrowed mutably and so overlaps no other, and
+// slice, every written one is borrowed mutably and so overlaps no other, and
 // the library keeps no pointer after it returns. The pointer of an empty
 // slice is not null.
 
@@ -68,6 +110,87 @@ pub fn sha256_extend(register: &mut [u8], digest: &[u8]) -> u64 {
             register.len(),
             digest.as_ptr(),
             digest.len(),
+        )
+    }
+}
+
+/// Opens with the banks of `bitmap`: writes the state, which must be 1,307
+/// octets, and the beginnings of the agile log and of the table.
+pub fn open(
+    state: &mut [u8],
+    bitmap: u32,
+    log_1_2: &mut [u8],
+    agile: &mut [u8],
+    table: &mut [u8],
+) -> u64 {
+    unsafe {
+        sevgharin_open(
+            state.as_mut_ptr(),
+            state.len(),
+            bitmap,
+            log_1_2.as_mut_ptr(),
+            log_1_2.len(),
+            agile.as_mut_ptr(),
+            agile.len(),
+            table.as_mut_ptr(),
+            table.len(),
+        )
+    }
+}
+
+/// HashLogExtendEvent: extends a register by the digests of `data`, and logs
+/// the event of `request`.
+pub fn request(
+    state: &mut [u8],
+    flags: u64,
+    request: &[u8],
+    data: &[u8],
+    log_1_2: &mut [u8],
+    agile: &mut [u8],
+    table: &mut [u8],
+) -> u64 {
+    unsafe {
+        sevgharin_request(
+            state.as_mut_ptr(),
+            state.len(),
+            flags,
+            request.as_ptr(),
+            request.len(),
+            data.as_ptr(),
+            data.len(),
+            log_1_2.as_mut_ptr(),
+            log_1_2.len(),
+            agile.as_mut_ptr(),
+            agile.len(),
+            table.as_mut_ptr(),
+            table.len(),
+        )
+    }
+}
+
+/// GetEventLog: writes the marks of the log of `format` to `answer`, which
+/// must be 18 octets, and arms the table in the state.
+pub fn read_log(
+    state: &mut [u8],
+    format: u32,
+    log_1_2: &[u8],
+    agile: &[u8],
+    table: &[u8],
+    answer: &mut [u8],
+) -> u64 {
+    unsafe {
+        sevgharin_read_log(
+            state.as_mut_ptr(),
+            state.len(),
+            format,
+            log_1_2.as_ptr(),
+            log_1_2.len(),
+            agile.as_ptr(),
+            agile.len(),
+            table.as_ptr(),
+            table.len(),
+            answer.as_mut_ptr(),
+            answer.len(),
         )
     }
 }

@@ -1,0 +1,206 @@
+//! States damaged in every way that 01 lists under "A state doesn't belong
+//! when", each just inside and just outside, and bytes that encode no state.
+
+use crate::memory::Memory;
+use crate::step::{Buffer, Step};
+
+/// A field of a state's layout.
+#[derive(Clone, Copy)]
+pub struct Field {
+    name: &'static str,
+    place: usize,
+    len: usize,
+}
+
+const fn field(name: &'static str, place: usize, len: usize) -> Field {
+    Field { name, place, len }
+}
+
+pub const BITMAP: Field = field("bitmap", 0, 4);
+pub const TABLE_USED: Field = field("table used", 40, 8);
+const TABLE_CLOSED: Field = field("table closed", 48, 1);
+const COUNT: Field = field("table count", 49, 8);
+pub const ARMED: Field = field("armed", 57, 1);
+const FULL: Field = field("11 given", 58, 1);
+
+/// The fields of a log's marks.
+#[derive(Clone, Copy)]
+pub struct Marks {
+    pub used: Field,
+    closed: Field,
+    has_last: Field,
+    last: Field,
+}
+
+pub const LOG_1_2: Marks = Marks {
+    used: field("1.2 used", 4, 8),
+    closed: field("1.2 closed", 12, 1),
+    has_last: field("1.2 has a last entry", 13, 1),
+    last: field("1.2 last entry", 14, 8),
+};
+
+pub const AGILE: Marks = Marks {
+    used: field("agile used", 22, 8),
+    closed: field("agile closed", 30, 1),
+    has_last: field("agile has a last entry", 31, 1),
+    last: field("agile last entry", 32, 8),
+};
+
+impl Field {
+    /// The field of a state; 0 where the bytes are too few.
+    pub fn get(self, state: &[u8]) -> u64 {
+        let bytes = state.get(self.place..self.place + self.len);
+        let bytes = bytes.unwrap_or(&[]).iter().rev();
+        bytes.fold(0, |value, &byte| value << 8 | u64::from(byte))
+    }
+
+    fn put(self, state: &mut [u8], value: u64) {
+        let bytes = &value.to_le_bytes()[..self.len];
+        state[self.place..self.place + self.len].copy_from_slice(bytes);
+    }
+}
+
+/// Fields and what they are changed to.
+pub type Damage = Vec<(Field, u64)>;
+
+/// The step that lends the damaged state.
+pub fn step(state: &[u8], damage: &Damage) -> Step {
+    let mut state = state.to_vec();
+    for &(field, value) in damage {
+        field.put(&mut state, value);
+    }
+    let words: Vec<String> = damage
+        .iter()
+        .map(|(field, value)| format!("{} {value}", field.name))
+        .collect();
+    Step::State(state, words.join(", "))
+}
+
+/// A store used up to `used`; the last byte is a log's last entry.
+pub fn used(buffer: Buffer, used: u64) -> Damage {
+    let log = match buffer {
+        Buffer::Log12 => LOG_1_2,
+        Buffer::Agile => AGILE,
+        Buffer::Table => return vec![(TABLE_USED, used)],
+    };
+    vec![(log.used, used), (log.has_last, 1), (log.last, used - 1)]
+}
+
+/// Every damage to the state that is lent, which has 1,307 bytes.
+pub fn damages(memory: &Memory) -> Vec<Damage> {
+    let mut all = bitmaps();
+    all.extend(marks(LOG_1_2, memory, memory.log_1_2.len() as u64));
+    all.extend(marks(AGILE, memory, memory.agile.len() as u64));
+    all.extend(table(memory));
+    all.extend(inactive());
+    all.extend(headers());
+    for flag in [ARMED, FULL] {
+        all.extend(flag_bytes(flag));
+    }
+    all
+}
+
+fn bitmaps() -> Vec<Damage> {
+    let high = 1 << 31;
+    let values = [0, 1, 2, 3, 4, 5, 7, 0x100, 0x1_0000, high, high + 3];
+    values.map(|value| vec![(BITMAP, value)]).to_vec()
+}
+
+/// The values around a bound, and far from it: near the limits of 32 and of 64
+/// bits, where a shortened number would look good.
+fn around(bound: u64) -> Vec<u64> {
+    let low = bound.wrapping_sub(1);
+    let mut values = vec![bound, bound + 1, bound + (1 << 32), bound + (1 << 63)];
+    values.extend((bound > 0).then_some(low));
+    values.push(u64::MAX);
+    values
+}
+
+fn marks(log: Marks, memory: &Memory, buffer: u64) -> Vec<Damage> {
+    let state = memory.state.get();
+    let used = log.used.get(state);
+    let mut all = Vec::new();
+    // A used length about its buffer's; the last entry is the first byte, the
+    // byte before the used length, or what it was.
+    for value in around(buffer) {
+        all.push(vec![(log.used, value)]);
+        all.push(vec![(log.used, value), (log.has_last, 1), (log.last, 0)]);
+        let before = value.saturating_sub(1);
+        all.push(vec![
+            (log.used, value),
+            (log.has_last, 1),
+            (log.last, before),
+        ]);
+    }
+    for value in around(used).into_iter().chain([0]) {
+        all.push(vec![(log.has_last, 1), (log.last, value)]);
+        // An offset though there is none.
+        all.push(vec![(log.has_last, 0), (log.last, value)]);
+    }
+    for (value, has_last, last) in [(0, 0, 0), (0, 1, 0), (1, 0, 0), (1, 1, 0), (1, 1, 1)] {
+        all.push(vec![
+            (log.used, value),
+            (log.has_last, has_last),
+            (log.last, last),
+        ]);
+    }
+    all.extend(flag_bytes(log.closed));
+    all.extend(flag_bytes(log.has_last));
+    all
+}
+
+fn table(memory: &Memory) -> Vec<Damage> {
+    let buffer = memory.table.len() as u64;
+    let mut all = Vec::new();
+    for value in around(buffer).into_iter().chain(around(16)).chain([0]) {
+        all.push(vec![(TABLE_USED, value)]);
+    }
+    for value in around(2_048).into_iter().chain([0, 1]) {
+        all.push(vec![(COUNT, value)]);
+        all.push(vec![(COUNT, value), (ARMED, 1)]);
+    }
+    all.extend(flag_bytes(TABLE_CLOSED));
+    all.push(vec![(TABLE_CLOSED, 1), (ARMED, 1)]);
+    all.push(vec![(TABLE_CLOSED, 1), (ARMED, 0)]);
+    all
+}
+
+/// SHA-1 inactive, and marks of the 1.2 log.
+fn inactive() -> Vec<Damage> {
+    let marks = [(0, 0, 0), (0, 1, 0), (1, 0, 0), (1, 1, 0), (32, 1, 0)];
+    let damage = |(used, has_last, last)| {
+        vec![
+            (BITMAP, 2),
+            (LOG_1_2.used, used),
+            (LOG_1_2.has_last, has_last),
+            (LOG_1_2.last, last),
+        ]
+    };
+    let mut all = marks.map(damage).to_vec();
+    let mut closed = damage(marks[0]);
+    closed.push((LOG_1_2.closed, 1));
+    all.push(closed);
+    all
+}
+
+/// Each bitmap with used lengths about both headers' lengths.
+fn headers() -> Vec<Damage> {
+    let mut all = Vec::new();
+    for bitmap in 1..=3 {
+        for used in [0, 1, 64, 65, 66, 68, 69, 70] {
+            let mut damage = vec![(BITMAP, bitmap), (AGILE.used, used)];
+            damage.extend([(AGILE.has_last, 1), (AGILE.last, 0)]);
+            if bitmap == 2 {
+                damage.extend([(LOG_1_2.used, 0), (LOG_1_2.has_last, 0), (LOG_1_2.last, 0)]);
+            }
+            all.push(damage);
+        }
+    }
+    all
+}
+
+fn flag_bytes(flag: Field) -> Vec<Damage> {
+    [0, 1, 2, 3, 128, 255]
+        .map(|value| vec![(flag, value)])
+        .to_vec()
+}

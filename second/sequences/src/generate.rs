@@ -1,0 +1,242 @@
+//! Random sequences, each repeatable from the seed and its number.
+
+use crate::asked::{variations, Asked, Variation};
+use crate::damage::{self, damages};
+use crate::run::{Run, Sequence};
+use crate::step::{Buffer, Step, BUFFERS};
+use crate::stores::{bitmap, entry_len, first_used, resized, used};
+use model::random::Random;
+use model::service::{LONGEST, MARKS_BYTES, STATE_BYTES};
+
+/// A sequence has at least so many calls.
+const CALLS: usize = 12;
+
+pub struct Generator {
+    random: Random,
+    variations: Vec<Variation>,
+}
+
+impl Generator {
+    pub fn new() -> Generator {
+        Generator {
+            random: Random::new(0),
+            variations: variations(),
+        }
+    }
+
+    pub fn sequence(&mut self, run: &mut Run, seed: u64, number: u64) {
+        self.random = Random::new(Random::new(seed).number() ^ number);
+        let mut sequence = Sequence::new(run, format!("seed {seed}, sequence {number}"));
+        self.open(&mut sequence);
+        while sequence.goes_on(CALLS) {
+            if self.blank(&sequence) && !self.random.one_in(4) {
+                self.open(&mut sequence);
+            }
+            self.turn(&mut sequence);
+        }
+    }
+
+    /// The last opening was refused.
+    fn blank(&self, sequence: &Sequence) -> bool {
+        let memory = sequence.memory();
+        memory.state.len() != STATE_BYTES || bitmap(memory) == 0
+    }
+
+    fn turn(&mut self, sequence: &mut Sequence) {
+        match self.random.below(24) {
+            0 => self.open(sequence),
+            1 | 2 => self.damaged(sequence),
+            3 => self.other_state(sequence),
+            4 => self.other_buffer(sequence),
+            5..=8 => self.read(sequence),
+            _ => self.request(sequence),
+        }
+    }
+
+    fn open(&mut self, sequence: &mut Sequence) {
+        let random = &mut self.random;
+        let high = 1 << 31;
+        let bitmap = if random.one_in(16) {
+            random.pick(&[0, 4, 5, 7, 8, 256, 1 << 16, high, high + 3, u32::MAX])
+        } else {
+            random.pick(&[1, 2, 3, 3])
+        };
+        for buffer in BUFFERS {
+            let len = buffer_len(random, buffer, bitmap);
+            sequence.make(Step::Lend(buffer, random.octets(len)));
+        }
+        if random.one_in(4) {
+            let len = match random.below(6) {
+                0 => random.pick(&[0, 1, STATE_BYTES - 1, STATE_BYTES + 1]),
+                _ => STATE_BYTES,
+            };
+            sequence.make(Step::State(random.octets(len), "any bytes".to_string()));
+        }
+        sequence.make(Step::Open { bitmap });
+    }
+
+    fn read(&mut self, sequence: &mut Sequence) {
+        let random = &mut self.random;
+        let format = match random.below(6) {
+            0 => random.pick(&[0, 3, 4, 0x101, 0x102, (1 << 31) + 2, u32::MAX]),
+            _ => random.pick(&[1, 2]),
+        };
+        let len = match random.below(10) {
+            0 => random.pick(&[0, 1, 17, 19, 36]),
+            _ => MARKS_BYTES,
+        };
+        let answer = random.octets(len);
+        sequence.make(Step::Read { format, answer });
+    }
+
+    fn request(&mut self, sequence: &mut Sequence) {
+        let asked = self.asked();
+        if self.random.one_in(4) {
+            self.tune(sequence, &asked);
+        }
+        sequence.make(asked.step());
+    }
+
+    /// Most requests are good; some have one field changed, or more.
+    fn asked(&mut self) -> Asked {
+        let event = match self.random.below(8) {
+            0 | 1 => 0,
+            2 => self.random.below(300),
+            _ => self.random.below(40),
+        };
+        let data = match self.random.below(8) {
+            0 => self.random.below(300),
+            _ => self.random.below(70),
+        };
+        let mut asked = Asked::good(&mut self.random, event, 1 + data);
+        if self.random.one_in(6) {
+            asked.flags = 1;
+        }
+        if self.random.one_in(16) {
+            asked.flags |= 0x10;
+        }
+        if self.random.one_in(3) {
+            self.vary(&mut asked);
+            if self.random.one_in(4) {
+                self.vary(&mut asked);
+            }
+        }
+        asked
+    }
+
+    /// The long variations are rare.
+    fn vary(&mut self, asked: &mut Asked) {
+        let mut variation = self.random.pick(&self.variations);
+        while variation.long() && !self.random.one_in(8) {
+            variation = self.random.pick(&self.variations);
+        }
+        variation.vary(asked, &mut self.random);
+    }
+
+    /// A buffer into which the entry just fits, or is one short.
+    fn tune(&mut self, sequence: &mut Sequence, asked: &Asked) {
+        let memory = sequence.memory();
+        let buffer = self.random.pick(&BUFFERS);
+        let entry = entry_len(buffer, bitmap(memory), asked.event_len());
+        let used = used(memory, buffer);
+        if used > LONGEST as u64 || entry > LONGEST {
+            return;
+        }
+        let len = used as usize + entry - self.random.pick(&[0, 0, 1, 1, 2]);
+        let step = resized(memory, buffer, len, &mut self.random);
+        sequence.make(step);
+    }
+
+    /// A call with a damaged state, which is mostly put back.
+    fn damaged(&mut self, sequence: &mut Sequence) {
+        if sequence.memory().state.len() != STATE_BYTES {
+            return;
+        }
+        let all = damages(sequence.memory());
+        let damage = &all[self.random.below(all.len())];
+        let step = damage::step(sequence.memory().state.get(), damage);
+        self.with_state(sequence, step);
+    }
+
+    /// A call with a state of any bytes, of another length, or with other
+    /// registers.
+    fn other_state(&mut self, sequence: &mut Sequence) {
+        let mut state = sequence.memory().state.get().to_vec();
+        let words = match self.random.below(4) {
+            0 => {
+                state = self.random.octets(STATE_BYTES);
+                "any bytes"
+            }
+            1 => {
+                let lengths = [0, 1, 59, STATE_BYTES - 1, STATE_BYTES + 1, 2 * STATE_BYTES];
+                state.resize(self.random.pick(&lengths), 0);
+                "cut, or with zeros after"
+            }
+            2 if state.len() == STATE_BYTES => {
+                state.truncate(59);
+                state.extend(self.random.octets(STATE_BYTES - 59));
+                "any registers"
+            }
+            _ => {
+                if !state.is_empty() {
+                    let place = self.random.below(state.len());
+                    state[place] ^= 1 << self.random.below(8);
+                }
+                "one bit turned"
+            }
+        };
+        self.with_state(sequence, Step::State(state, words.to_string()));
+    }
+
+    fn with_state(&mut self, sequence: &mut Sequence, step: Step) {
+        let before = sequence.memory().state.get().to_vec();
+        sequence.make(step);
+        self.call(sequence);
+        if !self.random.one_in(4) {
+            sequence.make(Step::State(before, "as it was before".to_string()));
+        }
+    }
+
+    /// A call with a buffer of another length, which is mostly put back.
+    fn other_buffer(&mut self, sequence: &mut Sequence) {
+        let memory = sequence.memory();
+        let buffer = self.random.pick(&BUFFERS);
+        let used = used(memory, buffer).min(LONGEST as u64) as usize;
+        let len = match self.random.below(8) {
+            0 => self.random.pick(&[LONGEST, LONGEST + 1]),
+            1 => self.random.below(used + 1),
+            2 => used + self.random.below(200),
+            3 => used + 1,
+            4 | 5 => used,
+            _ => used.saturating_sub(1),
+        };
+        let before = buffer.of(memory).get().to_vec();
+        let step = resized(memory, buffer, len, &mut self.random);
+        sequence.make(step);
+        self.call(sequence);
+        if !self.random.one_in(4) {
+            sequence.make(Step::Lend(buffer, before));
+        }
+    }
+
+    fn call(&mut self, sequence: &mut Sequence) {
+        match self.random.below(12) {
+            0 => self.open(sequence),
+            1..=4 => self.read(sequence),
+            _ => self.request(sequence),
+        }
+    }
+}
+
+/// Room for a few entries or for many, seldom none or the most there may be.
+fn buffer_len(random: &mut Random, buffer: Buffer, bitmap: u32) -> usize {
+    let first = first_used(buffer, bitmap.into());
+    match random.below(64) {
+        0 => random.pick(&[LONGEST, LONGEST, LONGEST + 1]),
+        1 | 2 => random.below(first + 1),
+        3 => first.max(1) - 1,
+        4 | 5 => first + random.below(2),
+        6..=36 => first + 1_000 + random.below(3_000),
+        _ => first + random.below(500),
+    }
+}

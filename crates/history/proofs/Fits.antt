@@ -1,24 +1,23 @@
 -- What holds of the panel after a successful opening and after every call: the state belongs to its buffers, and the table's count stays below its
 -- limit. Assumes nothing.
-use mathlib.Core.Bool.{Bool, true, false, cond, not, _&&_, _||_}
+use mathlib.Core.Bool.{Bool, true, false, _||_}
 use mathlib.Core.List.{List, [], _∷_}
 use mathlib.Core.Logic.{_⊎_, inl, inr}
-use mathlib.Core.Path.{_≡_, refl, sym, ap, _∙_}
+use mathlib.Core.Path.{_≡_, refl, ap, _∙_}
 use Prim.Native.Nat.{ℕ, _+_, _*_, _≤_, _<_}
 use native.Mathlib.Omega.{arith}
 use borrow.Author.Tests.{leb-true, le-leb, lt-ltb}
-use lib.Dec.{leb, ltb, eqb}
+use lib.Dec.{leb, eqb}
 use lib.ListN.{length}
 use lib.Seq.{sets}
 use Rattle.wire.specs.Bytes.{le}
 use Rattle.wire.proofs.Tests.{both}
-use Rattle.bank.specs.Bank.{Bank, valid, banks, active, sha1Bank}
-use Rattle.bank.proofs.Laws.{Every, every-banks, every-table, banks-1, banks-2, banks-3}
+use Rattle.bank.specs.Bank.{valid, banks, active, sha1Bank}
+use Rattle.bank.proofs.Laws.{Every, every-banks, banks-1, banks-2, banks-3}
 use Rattle.entry.specs.Entry.{logLimit, oldBytes, agileBytes, oldLength, agileLength, digestsLengthOf}
 use Rattle.entry.specs.Header.{headerLength}
 use Rattle.entry.proofs.Laws.{length-old, length-agile, fits-hashes}
-use Rattle.store.specs.declared.Last.the-variants.{Missing, At}
-use Rattle.store.specs.Store.{countLimit, Offered, taken, shut, offered, TableOffered, tableTaken, tableShut, tableOffered}
+use Rattle.store.specs.Store.{countLimit, Offered, offered, TableOffered, tableOffered}
 use Rattle.service.specs.State.{belongs, lastFits}
 use Rattle.request.specs.Request.{extendOnly, offerIf, offerTableIf}
 use Rattle.request.specs.Request as spec
@@ -221,8 +220,8 @@ module _ (bitmap O A T : ℕ) where
         table = rw f (final-kept m p k (p .state .armed));
         oldNone = ap (λ (x : Offered). active bitmap sha1Bank || eqb (x .store .used) 0) n ∙ none-kept m p k (active bitmap sha1Bank) refl;
         agileHead =
-          let g : headerLength (banks bitmap) ≤ agileOf (loggedPanel m p) .store .used = rw e (omega (arith, a .1, k .agileHead)) in
-          g;
+            let g : headerLength (banks bitmap) ≤ agileOf (loggedPanel m p) .store .used = rw e (omega (arith, a .1, k .agileHead)) in
+            g;
       }
 
   fit-ask : (flags : ℕ) (message request : List ℕ) (p : Panel) → Fit p → (g o : Bool) → isGood flags message request ≡ g → extendOnly flags ≡ o

@@ -1,22 +1,21 @@
 -- After a successful opening and any calls: no call answers 7, the logs' used bytes are what was recorded, the table's are what was tabled, and the
 -- registers are what all accepted requests make of the reset values. Assumes nothing.
 use mathlib.Core.Bool.{Bool, true, false, _||_}
-use mathlib.Core.List.{List, [], _∷_, _++_, append-nil}
+use mathlib.Core.List.{List, [], _++_, append-nil}
 use mathlib.Core.Path.{_≡_, refl, sym, ap, subst, _∙_}
 use Prim.Native.Nat.{ℕ, _+_, _≤_}
 use native.Mathlib.Nat.{zero-add}
 use native.Mathlib.Omega.{arith}
 use borrow.Author.Tests.{leb-true, lt-ltb}
-use lib.Dec.{leb, eqb}
+use lib.Dec.{leb}
 use lib.ListN.{length, take, length-append, length-take}
 use lib.Seq.{sets, take-at, take-take, length-take-le}
 use Rattle.wire.specs.Bytes.{le}
 use Rattle.wire.proofs.Laws.{length-le}
 use Rattle.wire.proofs.Tests.{both}
 use Rattle.bank.specs.Bank.{valid, banks, active, sha1Bank}
-use Rattle.bank.specs.Registers.{resetAll}
 use Rattle.entry.specs.Entry.{logLimit, agileBytes}
-use Rattle.entry.specs.Form.{Form, old, agile}
+use Rattle.entry.specs.Form.{old, agile}
 use Rattle.entry.specs.Header.{headerBytes, headerLength}
 use Rattle.entry.proofs.Laws.{length-header}
 use Rattle.store.specs.Store.{Offered, TableOffered}
@@ -24,13 +23,13 @@ use Rattle.service.specs.Opening.{openingOf, opened, fresh, tableFront, inLimit
 use Rattle.service.proofs.Openings.{opening-0, opened-0}
 use Rattle.service.proofs.Readings as readings
 use Rattle.request.proofs.Requests as requests
-use Rattle.history.specs.History.{Call, ask, reading, Panel, panelOf, statusOf, step, run, opening, Measure, entryOf, bytesIn, accepted, logged, tabled, fitting, cutOff, allBytes, recorded, inTable, extendBy, made}
+use Rattle.history.specs.History.{Call, ask, reading, Panel, panelOf, statusOf, run, opening, Measure, entryOf, bytesIn, accepted, logged, tabled, fitting, cutOff, allBytes, recorded, inTable, extendBy, made}
 use Rattle.history.proofs.Stores.{grown, puts, puts-closed, puts-open, Stored}
 use Rattle.history.proofs.Stores as stores
 use Rattle.history.proofs.Steps.{oldOf, agileOf, finalOf}
 use Rattle.history.proofs.Fits.{Fit, fit-belongs, fit-run, few}
 use Rattle.history.proofs.Runs.{run-append, run-agile, run-old, run-no-old, run-registers}
-use Rattle.history.proofs.Tables.{tableBytes, run-final}
+use Rattle.history.proofs.Tables.{run-final}
 use Rattle.history.proofs.Tables as tables
 
 -- ---- no call answers 7
@@ -104,11 +103,11 @@ module _ (bitmap : ℕ) (lentOld lentAgile lentTable : List ℕ) (ok : openingOf
         tableShort = limits .3;
         old = record { within = omega arith; long = refl; last = refl };
         agile =
-          record {
-            within = rooms .0;
-            long = stores.length-sets lentAgile (headerBytes (banks bitmap)) 0;
-            last = lt-ltb 0 (headerLength (banks bitmap)) (unfold headerLength in (omega arith));
-          };
+            record {
+              within = rooms .0;
+              long = stores.length-sets lentAgile (headerBytes (banks bitmap)) 0;
+              last = lt-ltb 0 (headerLength (banks bitmap)) (unfold headerLength in (omega arith));
+            };
         table = record { within = rooms .1; long = stores.length-sets lentTable tableFront 0; counted = omega arith };
         oldNone = or-true (active bitmap sha1Bank);
         agileHead = omega arith;
@@ -153,7 +152,7 @@ module _ (bitmap : ℕ) (lentOld lentAgile lentTable : List ℕ) (ok : openingOf
   agile-bytes cs =
       let l : headerLength (banks bitmap) ≡ length (headerBytes (banks bitmap)) = sym (length-header (banks bitmap)) in
       let front : take (headerLength (banks bitmap)) (sets lentAgile 0 (headerBytes (banks bitmap))) ≡ headerBytes (banks bitmap) =
-        rw (l, ← zero-add (length (headerBytes (banks bitmap)))) (grown lentAgile (headerBytes (banks bitmap)) 0 (omega (arith, rooms .0))) in
+      rw (l, ← zero-add (length (headerBytes (banks bitmap)))) (grown lentAgile (headerBytes (banks bitmap)) 0 (omega (arith, rooms .0))) in
       agile-stored cs .bytes-are ∙ (rw (front, l))
 
   pub agile-closed : (cs : List Call) → run cs begun .state .agile .closed ≡ cutOff (bytesIn (agile (banks bitmap))) (length lentAgile) (length (agile (banks bitmap) .head)) (logged cs)
@@ -182,7 +181,7 @@ module _ (bitmap : ℕ) (lentOld lentAgile lentTable : List ℕ) (ok : openingOf
   unfolding fresh
   old-unwritten a cs =
       let e : oldOf (run cs begun) ≡ oldOf (panelOf (opened bitmap lentOld lentAgile lentTable)) =
-        run-no-old bitmap (length lentOld) (length lentAgile) (length lentTable) a cs begun fit-opening ∙ ap oldOf is-opened in
+      run-no-old bitmap (length lentOld) (length lentAgile) (length lentTable) a cs begun fit-opening ∙ ap oldOf is-opened in
       (ap (λ (o : Offered). o .store .used) e, ap (λ (o : Offered). o .buffer) e)
 
   -- 5. what stood in a log's used bytes after some of the calls still stands there after all of them
@@ -190,7 +189,7 @@ module _ (bitmap : ℕ) (lentOld lentAgile lentTable : List ℕ) (ok : openingOf
   agile-stays cs ds =
       let k = fit-after cs in
       let e : agileOf (run (cs ++ ds) begun) ≡ puts (bytesIn (agile (banks bitmap))) (logged ds) (agileOf (run cs begun)) =
-        ap agileOf (run-append cs ds begun) ∙ run-agile bitmap (length lentOld) (length lentAgile) (length lentTable) ds (run cs begun) k in
+      ap agileOf (run-append cs ds begun) ∙ run-agile bitmap (length lentOld) (length lentAgile) (length lentTable) ds (run cs begun) k in
       ap (λ (o : Offered). take (run cs begun .state .agile .used) (o .buffer)) e
       ∙ grows (bytesIn (agile (banks bitmap))) (logged ds) (agileOf (run cs begun)) (omega (arith, k .agile .within, k .agile .long)) (run cs begun .state .agile .closed) refl
 
@@ -202,7 +201,7 @@ module _ (bitmap : ℕ) (lentOld lentAgile lentTable : List ℕ) (ok : openingOf
       go true a =
           let k = fit-after cs in
           let e : oldOf (run (cs ++ ds) begun) ≡ puts (bytesIn old) (logged ds) (oldOf (run cs begun)) =
-            ap oldOf (run-append cs ds begun) ∙ run-old bitmap (length lentOld) (length lentAgile) (length lentTable) a ds (run cs begun) k in
+          ap oldOf (run-append cs ds begun) ∙ run-old bitmap (length lentOld) (length lentAgile) (length lentTable) a ds (run cs begun) k in
           ap (λ (o : Offered). take (run cs begun .state .old .used) (o .buffer)) e
           ∙ grows (bytesIn old) (logged ds) (oldOf (run cs begun)) (omega (arith, k .old .within, k .old .long)) (run cs begun .state .old .closed) refl
       go false a =
@@ -219,16 +218,16 @@ module _ (bitmap : ℕ) (lentOld lentAgile lentTable : List ℕ) (ok : openingOf
         still = refl;
         long = stores.length-sets lentTable (le 8 1 ++ le 8 0) 0;
         holds =
-          let l : length (le 8 1 ++ le 8 0) ≡ 16 = rw (length-append, length-le, length-le) in
-          let g : take (0 + length (le 8 1 ++ le 8 0)) (sets lentTable 0 (le 8 1 ++ le 8 0)) ≡ le 8 1 ++ le 8 0 = grown lentTable (le 8 1 ++ le 8 0) 0 (omega (arith, rooms .1)) in
-          (rw (zero-add, l) at g) ∙ (rw append-nil);
+            let l : length (le 8 1 ++ le 8 0) ≡ 16 = rw (length-append, length-le, length-le) in
+            let g : take (0 + length (le 8 1 ++ le 8 0)) (sets lentTable 0 (le 8 1 ++ le 8 0)) ≡ le 8 1 ++ le 8 0 = grown lentTable (le 8 1 ++ le 8 0) 0 (omega (arith, rooms .1)) in
+            (rw (zero-add, l) at g) ∙ (rw append-nil);
         place = refl;
       }
 
   table-stored : (cs : List Call) → tables.Tabled tableEntry (length lentTable) [] (finalOf (panelOf (opened bitmap lentOld lentAgile lentTable))) (tabled bitmap false cs) (finalOf (run cs begun))
   table-stored cs =
       let e : tables.puts tableEntry (tabled bitmap (panelOf (opened bitmap lentOld lentAgile lentTable) .state .armed) cs) (finalOf (panelOf (opened bitmap lentOld lentAgile lentTable)))
-        ≡ tables.puts tableEntry (tabled bitmap false cs) (finalOf (panelOf (opened bitmap lentOld lentAgile lentTable))) = unfold fresh in refl in
+      ≡ tables.puts tableEntry (tabled bitmap false cs) (finalOf (panelOf (opened bitmap lentOld lentAgile lentTable))) = unfold fresh in refl in
       subst (λ (o : TableOffered). tables.Tabled tableEntry (length lentTable) [] (finalOf (panelOf (opened bitmap lentOld lentAgile lentTable))) (tabled bitmap false cs) o)
       (sym (run-final bitmap (length lentOld) (length lentAgile) (length lentTable) cs begun fit-opening
       ∙ ap (λ (p : Panel). tables.puts tableEntry (tabled bitmap (p .state .armed) cs) (finalOf p)) is-opened ∙ e))

@@ -4,3 +4,7 @@ pub mod Fits
 pub mod Runs
 pub mod Tables
 pub mod Kept
+pub mod Good
+pub mod Replays
+pub mod Banks
+pub mod Demand3

@@ -1,20 +1,20 @@
 -- What any calls leave in each store and in the registers: the logs were offered all that is logged, the table what is logged while it is armed, and
 -- the registers were extended with all that is accepted. Assumes nothing.
-use mathlib.Core.Bool.{Bool, true, false, not, _&&_, _||_}
+use mathlib.Core.Bool.{Bool, true, false, not, _&&_}
 use mathlib.Core.List.{List, [], _∷_, _++_}
-use mathlib.Core.Path.{_≡_, refl, sym, ap, _∙_}
+use mathlib.Core.Path.{_≡_, refl, ap, _∙_}
 use Prim.Native.Nat.{ℕ}
 use native.Mathlib.Omega.{arith}
 use Rattle.bank.specs.Bank.{banks, active, sha1Bank}
 use Rattle.bank.specs.Registers.{extendAll, hashes}
 use Rattle.entry.specs.Entry.{oldBytes, agileBytes}
-use Rattle.entry.specs.Form.{Form, old, agile}
-use Rattle.store.specs.Store.{Offered, offered, TableOffered, tableOffered}
-use Rattle.request.specs.Request.{extendOnly, offerIf, offerTableIf}
+use Rattle.entry.specs.Form.{old, agile}
+use Rattle.store.specs.Store.{Offered, offered}
+use Rattle.request.specs.Request.{extendOnly}
 use Rattle.request.specs.Request as spec
-use Rattle.history.specs.History.{Call, ask, reading, Panel, step, run, Measure, measureOf, entryOf, bytesIn, isGood, arms, keepIf, accepted, logged, plain, tabled, extendBy}
+use Rattle.history.specs.History.{Call, ask, reading, Panel, step, run, Measure, measureOf, entryOf, bytesIn, isGood, arms, keepIf, accepted, logged, plain, extendBy}
 use Rattle.history.proofs.Stores.{puts}
-use Rattle.history.proofs.Steps.{oldOf, agileOf, finalOf, extendedPanel, loggedPanel, armedPanel, step-bad, step-only, step-logged, step-reading, old-logged, agile-logged, final-logged, bitmap-logged, armed-logged, registers-logged}
+use Rattle.history.proofs.Steps.{oldOf, agileOf, extendedPanel, loggedPanel, armedPanel, step-bad, step-only, step-logged, step-reading, old-logged, agile-logged, registers-logged}
 use Rattle.history.proofs.Fits.{Fit, fit-belongs, fit-step}
 
 -- prefixes of calls

@@ -1,7 +1,7 @@
 -- What one call makes of the panel, where the state belongs. Assumes nothing.
 use mathlib.Core.Bool.{Bool, true, false, cond, not, _&&_, _||_}
 use mathlib.Core.List.{List, [], _∷_}
-use mathlib.Core.Path.{_≡_, refl, ap, _∙_}
+use mathlib.Core.Path.{_≡_, refl, _∙_}
 use Prim.Native.Nat.{ℕ}
 use native.Mathlib.Omega.{arith}
 use lib.Dec.{eqb}
@@ -10,13 +10,12 @@ use Rattle.bank.specs.Bank.{banks, active, sha1Bank}
 use Rattle.bank.specs.Registers.{extendAll, hashes}
 use Rattle.entry.specs.Entry.{oldBytes, agileBytes}
 use Rattle.store.specs.Store.{Offered, offeredOf, offered, TableOffered, tableOf}
-use Rattle.service.specs.declared.State.{State}
 use Rattle.service.specs.State.{belongs}
 use Rattle.service.specs.Answer.{untouched}
 use Rattle.service.specs.Reading.{armed, told, refused, readingOf}
-use Rattle.request.specs.Request.{wellFormed, peCoff, extendOnly, requestOf, registerIn, kindIn, eventIn, offerIf, offerTableIf}
+use Rattle.request.specs.Request.{wellFormed, peCoff, extendOnly, requestOf, offerIf, offerTableIf}
 use Rattle.request.specs.Request as spec
-use Rattle.history.specs.History.{Call, ask, reading, Panel, panelOf, step, Measure, measureOf, entryOf, isGood, arms}
+use Rattle.history.specs.History.{ask, reading, Panel, panelOf, step, Measure, measureOf, entryOf, isGood, arms}
 
 -- the state belongs to its buffers
 abbrev pub Belongs : Panel → Type 0
@@ -78,11 +77,11 @@ module _ (p : Panel) (b : Belongs p) where
   step-reading format = rw b (go (eqb format 1 && active (p .state .bitmap) sha1Bank) (eqb format 2))
     where
       go : (a f : Bool) → (record {
-          state = cond a (told (p .state) (p .state .old)) (cond f (told (p .state) (p .state .agile)) (refused 2 (p .state))) .state;
-          old = p .old;
-          agile = p .agile;
-          table = p .table;
-        }) ≡ armedPanel (a || f) p
+        state = cond a (told (p .state) (p .state .old)) (cond f (told (p .state) (p .state .agile)) (refused 2 (p .state))) .state;
+        old = p .old;
+        agile = p .agile;
+        table = p .table;
+      }) ≡ armedPanel (a || f) p
       go true f = refl
       go false true = refl
       go false false = refl

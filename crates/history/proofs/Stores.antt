@@ -3,13 +3,12 @@
 use mathlib.Core.Bool.{Bool, true, false, cond}
 use mathlib.Core.List.{List, [], _∷_, _++_, append-assoc, append-nil}
 use mathlib.Core.Path.{_≡_, refl, sym, ap, _∙_}
-use Prim.Native.Nat.{ℕ, _+_, _≤_, _<_}
+use Prim.Native.Nat.{ℕ, _+_, _≤_}
 use native.Mathlib.Omega.{arith}
 use borrow.Author.Tests.{leb-true}
 use lib.Dec.{leb}
 use lib.ListN.{length, take, drop, length-append}
 use lib.Seq.{sets, take-at, length-take-le}
-use Rattle.wire.specs.Bytes.{Put, Room}
 use Rattle.wire.proofs.Laws.{put-is, put-length}
 use Rattle.store.specs.Store.{Offered, taken, shut, offered, TableOffered, tableTaken, tableShut, tableOffered}
 use Rattle.history.specs.History.{Measure, fitting, cutOff, allBytes}
@@ -93,7 +92,7 @@ module _ (bytes : Measure → List ℕ) where
       }
   step cap m ms o h l ih false e =
       let same : puts ms (offered (bytes m) (o .store) (o .buffer)) ≡ shut (o .store) (o .buffer) =
-        ap (puts ms) (offer-shut (bytes m) o h (rw l e)) ∙ puts-closed ms (shut (o .store) (o .buffer)) refl in
+      ap (puts ms) (offer-shut (bytes m) o h (rw l e)) ∙ puts-closed ms (shut (o .store) (o .buffer)) refl in
       record {
         bytes-are = ap kept same ∙ (rw e (sym (append-nil _)));
         closed-is = ap (λ (z : Offered). z .store .closed) same ∙ (rw e);

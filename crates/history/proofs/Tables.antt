@@ -1,14 +1,14 @@
 -- The final table that is offered the entries of some measurements, one after another, and what any calls leave in it. Assumes nothing.
-use mathlib.Core.Bool.{Bool, true, false, cond, not, _&&_, _||_}
+use mathlib.Core.Bool.{Bool, true, false, not, _&&_, _||_}
 use mathlib.Core.List.{List, [], _∷_, _++_, append-assoc, append-nil}
 use mathlib.Core.Path.{_≡_, refl, sym, ap, subst, _∙_}
-use Prim.Native.Nat.{ℕ, suc, _+_, _≤_}
-use native.Mathlib.Nat.{add-zero, add-assoc}
+use Prim.Native.Nat.{ℕ, _+_, _≤_}
+use native.Mathlib.Nat.{add-zero}
 use native.Mathlib.Omega.{arith}
 use borrow.Author.Tests.{leb-true}
 use lib.Dec.{leb}
 use lib.ListN.{length, take, drop, length-append}
-use lib.Seq.{sets, take-at, drop-at, length-take-le}
+use lib.Seq.{sets, take-at, drop-at}
 use Rattle.wire.specs.Bytes.{le}
 use Rattle.wire.proofs.Laws.{length-le}
 use Rattle.bank.specs.Bank.{banks}
@@ -18,7 +18,7 @@ use Rattle.request.specs.Request.{extendOnly, offerTableIf}
 use Rattle.request.specs.Request as spec
 use Rattle.history.specs.History.{Call, ask, reading, Panel, step, run, Measure, measureOf, entryOf, isGood, arms, keepIf, tabled, fitting, cutOff, allBytes}
 use Rattle.history.proofs.Stores.{sets-is, length-sets, table-closed, table-taken, table-shut}
-use Rattle.history.proofs.Steps.{finalOf, extendedPanel, loggedPanel, armedPanel, step-bad, step-only, step-logged, step-reading, final-logged, armed-logged}
+use Rattle.history.proofs.Steps.{finalOf, extendedPanel, armedPanel, step-bad, step-only, step-logged, step-reading, final-logged, armed-logged}
 use Rattle.history.proofs.Fits.{Fit, fit-belongs, fit-step}
 
 -- 01: "version u64 = 1, number of entries u64, then agile entries"
@@ -44,7 +44,7 @@ module _ (buffer s x : List ℕ) (used c d : ℕ) (k : take used buffer ≡ tabl
       let e : 8 + length (le 8 d) ≡ 16 = omega (arith, length-le 8 d) in
       let front : take 8 (sets buffer used s) ≡ le 8 1 = rw written (take-at (le 8 1) (le 8 c ++ whole) 8 (length-le 8 1)) in
       let back : drop 16 (sets buffer used s) ≡ whole =
-        rw (written, ← append-assoc) (drop-at (le 8 1 ++ le 8 c) whole 16 (rw (length-append, length-le, length-le))) in
+      rw (written, ← append-assoc) (drop-at (le 8 1 ++ le 8 c) whole 16 (rw (length-append, length-le, length-le))) in
       sets-is (sets buffer used s) (le 8 d) 8 long ∙ (rw (e, front, back))
 
   pub table-grown : take (used + length s) (sets (sets buffer used s) 8 (le 8 d)) ≡ tableBytes d (x ++ s)
@@ -86,21 +86,21 @@ module _ (bytes : Measure → List ℕ) where
       let t : TableOffered = tableTaken (bytes m) (o .table) (o .buffer) in
       let same : tableOffered (bytes m) (o .table) (o .buffer) ≡ t = table-taken (bytes m) o (k .still) (rw (k .long) e) in
       let n : Table cap (x ++ bytes m) t =
-        record {
-          still = refl;
-          long = length-sets (sets (o .buffer) (o .table .used) (bytes m)) (le 8 (o .table .count + 1)) 8 ∙ length-sets (o .buffer) (bytes m) (o .table .used) ∙ k .long;
-          holds = table-grown (o .buffer) (bytes m) x (o .table .used) (o .table .count) (o .table .count + 1) (k .holds) (k .place) r;
-          place = rw length-append (omega (arith, k .place));
-        } in
+      record {
+        still = refl;
+        long = length-sets (sets (o .buffer) (o .table .used) (bytes m)) (le 8 (o .table .count + 1)) 8 ∙ length-sets (o .buffer) (bytes m) (o .table .used) ∙ k .long;
+        holds = table-grown (o .buffer) (bytes m) x (o .table .used) (o .table .count) (o .table .count + 1) (k .holds) (k .place) r;
+        place = rw length-append (omega (arith, k .place));
+      } in
       let i : Tabled cap (x ++ bytes m) t ms (puts ms t) = ih (x ++ bytes m) t n in
       let j : Tabled cap x o (m ∷ ms) (puts ms t) =
-        record { counted = i .counted ∙ (rw e (omega arith)); holds = i .holds ∙ (rw (e, append-assoc)); closed = i .closed ∙ (rw e) } in
+      record { counted = i .counted ∙ (rw e (omega arith)); holds = i .holds ∙ (rw (e, append-assoc)); closed = i .closed ∙ (rw e) } in
       subst (λ (z : TableOffered). Tabled cap x o (m ∷ ms) (puts ms z)) (sym same) j
   turn cap m ms x o k ih false e =
       let same : puts ms (tableOffered (bytes m) (o .table) (o .buffer)) ≡ tableShut (o .table) (o .buffer) =
-        ap (puts ms) (table-shut (bytes m) o (k .still) (rw (k .long) e)) ∙ puts-closed ms (tableShut (o .table) (o .buffer)) refl in
+      ap (puts ms) (table-shut (bytes m) o (k .still) (rw (k .long) e)) ∙ puts-closed ms (tableShut (o .table) (o .buffer)) refl in
       let j : Tabled cap x o (m ∷ ms) (tableShut (o .table) (o .buffer)) =
-        record { counted = rw e (sym (add-zero (o .table .count))); holds = k .holds ∙ (rw (e, append-nil)); closed = rw e } in
+      record { counted = rw e (sym (add-zero (o .table .count))); holds = k .holds ∙ (rw (e, append-nil)); closed = rw e } in
       subst (λ (z : TableOffered). Tabled cap x o (m ∷ ms) z) (sym same) j
 
   pub puts-open : (cap : ℕ) (ms : List Measure) (x : List ℕ) (o : TableOffered) → Table cap x o → Tabled cap x o ms (puts ms o)

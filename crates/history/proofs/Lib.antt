@@ -1,0 +1,10 @@
+pub mod Stores
+pub mod Steps
+pub mod Fits
+pub mod Runs
+pub mod Tables
+pub mod Kept
+pub mod Good
+pub mod Replays
+pub mod Banks
+pub mod Demand3

@@ -3,7 +3,7 @@
 use mathlib.Core.Bool.{Bool, true, false, cond}
 use mathlib.Core.List.{List, [], _∷_, _++_, append-assoc, append-nil}
 use mathlib.Core.Path.{_≡_, refl, sym, ap, _∙_}
-use Prim.Native.Nat.{ℕ, _+_, _≤_}
+use Prim.Native.Nat.{ℕ, _+_, _≤_, _<_}
 use native.Mathlib.Omega.{arith}
 use borrow.Author.Tests.{leb-true}
 use lib.Dec.{leb}
@@ -116,3 +116,15 @@ module _ (bytes : Measure → List ℕ) (cap : ℕ) where
           → cond b (m ∷ fitting bytes cap (used + length (bytes m)) ms) [] ≡ m ∷ ms
       go true k ih = ap (λ (r : List Measure). m ∷ r) (ih k)
       go false k ih = absurd (let z : _≡_ {A = ℕ} 0 1 = cc in omega arith)
+
+  -- and where something was cut off, not all was taken
+  pub fitting-less : (used : ℕ) (ms : List Measure) → cutOff bytes cap used ms ≡ true → length (fitting bytes cap used ms) < length ms
+  unfolding cutOff fitting
+  fitting-less used [] h = absurd (let z : _≡_ {A = ℕ} 0 1 = cc in omega arith)
+  fitting-less used (m ∷ ms) h = go (leb (used + length (bytes m)) cap) h (fitting-less (used + length (bytes m)) ms)
+    where
+      go : (b : Bool) → cond b (cutOff bytes cap (used + length (bytes m)) ms) true ≡ true
+          → (cutOff bytes cap (used + length (bytes m)) ms ≡ true → length (fitting bytes cap (used + length (bytes m)) ms) < length ms)
+          → length (cond b (m ∷ fitting bytes cap (used + length (bytes m)) ms) []) < length (m ∷ ms)
+      go true k ih = omega (arith, ih k)
+      go false k ih = omega arith

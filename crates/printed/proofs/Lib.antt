@@ -1,0 +1,2 @@
+-- how long lines are, and the turns of the loops that write them
+pub mod Laws

@@ -1,3 +1,6 @@
--- how long lines are, and the turns of the loops that write them
+-- the turns of the loops that write lines
 pub mod Laws
+-- how long lines are
 pub mod Lengths
+-- the whole output
+pub mod Prints

@@ -1,1 +1,4 @@
+-- the lines
 pub mod Lines
+-- the whole output
+pub mod Printed

@@ -8,7 +8,7 @@ use native.Mathlib.Omega.{arith}
 use borrow.Author.Tests.{le-leb, lt-leb, leb-true}
 use lib.Dec.{leb, eqb}
 use lib.ListN.{length, drop, length-append}
-use lib.Seq.{sets}
+use lib.Seq.{sets, length-sets}
 use Rattle.wire.specs.Bytes.{Put, Room}
 use Rattle.bank.specs.Bank.{banks}
 use Rattle.entry.specs.Entry.{logLimit}
@@ -147,3 +147,18 @@ module _ (log out : List ℕ) where
   unique p q =
       let e = p ∙ sym q in
       (ap (λ (o : Outcome). o .written) e, ap (λ (o : Outcome). o .buffer) e)
+
+  -- what was written ends in the buffer
+  pub written-fits : {r : ℕ} {x : List ℕ} → outcome r x ≡ printedOf log out → r ≤ length x
+  unfolding printedOf
+  written-fits {r} {x} e = go (leb outputLimit (length out)) refl e
+    where
+      go : (b : Bool) → leb outputLimit (length out) ≡ b
+          → outcome r x ≡ cond b (outcome (length (output log)) (sets out 0 (output log))) (outcome 0 out) → r ≤ length x
+      go true h e =
+          let n = ap (λ (o : Outcome). o .written) e in
+          let l = ap (λ (o : Outcome). length (o .buffer)) e in
+          omega (arith, n, l, length-sets out 0 (output log), leb-true outputLimit (length out) h, length-output log .fits)
+      go false h e =
+          let n = ap (λ (o : Outcome). o .written) e in
+          omega (arith, n)

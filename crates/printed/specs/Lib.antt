@@ -1,0 +1,4 @@
+-- the lines
+pub mod Lines
+-- the whole output
+pub mod Printed

@@ -4,3 +4,5 @@ pub mod Laws
 pub mod Lengths
 -- the whole output
 pub mod Prints
+-- the output for the header alone
+pub mod Examples

@@ -6,19 +6,20 @@ use mathlib.Core.List.{List, [], _∷_, _++_, append-assoc}
 use Prim.Native.Nat.{ℕ, zero, suc, _+_, _-_, _*_, _≤_, _<_}
 use native.Mathlib.Nat.{suc-mul, eq-or-lt-of-le, mul-le-mul-right}
 use native.Mathlib.Omega.{arith}
-use borrow.Author.Tests.{ltb-true, ltb-false}
-use lib.Dec.{ltb}
+use borrow.Author.Tests.{leb-true, ltb-true, ltb-false, eqb-true, eqb-false}
+use lib.Dec.{leb, ltb, eqb}
 use lib.ListN.{length, take, drop, getD, set, replicate, length-append, length-drop, length-replicate}
 use lib.Seq.{sets, length-sets, length-take-le, drop-set-lt, drop-set-add, take-set-le}
 use Rattle.wire.specs.Bytes.{part}
 use Rattle.wire.proofs.Laws.{part-here, part-put}
+use Rattle.wire.proofs.Tests.{both}
 use Rattle.padding.specs.Padding.{hash}
 use Rattle.padding.specs.Sha2.{compress}
 use Rattle.sha1.specs.Sha1 as Sha1
 use Rattle.sha1.proofs.Laws as sha1-laws
 use Rattle.sha256.specs.Sha256 as Sha256
 use Rattle.sha256.proofs.Laws as sha256-laws
-use Rattle.bank.specs.Bank.{Bank, sha1Bank, sha256Bank, table, rows, bankAt, active, keep, activeOf, banks}
+use Rattle.bank.specs.Bank.{Bank, sha1Bank, sha256Bank, table, rows, bankAt, active, keep, activeOf, valid, banks}
 use Rattle.bank.specs.Registers.{digestsLength, registersLength, place, value, extend, extendAll, resetFirst, resetOf, resetAll, digestIn, digestsIn, hashAll, hashes}
 
 -- ---- lists of banks
@@ -350,3 +351,20 @@ few-banks bitmap = few-of bitmap table
 
 pub size-row : (i : ℕ) → i < rows → bankAt i .size ≤ digestsLength
 size-row i h = omega (arith, within-row i h)
+
+-- a bitmap of the table's banks
+pub valid-cases : (bitmap : ℕ) → valid bitmap ≡ true → (bitmap ≡ 1) ⊎ ((bitmap ≡ 2) ⊎ (bitmap ≡ 3))
+unfolding valid
+valid-cases bitmap h =
+    let b = both (leb 1 bitmap) (leb bitmap 3) h in
+    let l : 1 ≤ bitmap = leb-true _ _ (b .0) in
+    let u : bitmap ≤ 3 = leb-true _ _ (b .1) in
+    go (eqb bitmap 1) (eqb bitmap 2) refl refl l u
+  where
+    go : (a c : Bool) → eqb bitmap 1 ≡ a → eqb bitmap 2 ≡ c → 1 ≤ bitmap → bitmap ≤ 3 → (bitmap ≡ 1) ⊎ ((bitmap ≡ 2) ⊎ (bitmap ≡ 3))
+    go true c e f l u = inl (eqb-true _ _ e)
+    go false true e f l u = inr (inl (eqb-true _ _ f))
+    go false false e f l u =
+        let n1 : bitmap ≡ 1 → ⊥ = eqb-false _ _ e in
+        let n2 : bitmap ≡ 2 → ⊥ = eqb-false _ _ f in
+        inr (inr (omega (arith, n1, n2)))

@@ -11,9 +11,8 @@ use lib.ListN.{length}
 use Rattle.bank.specs.Bank.{Bank, valid, banks, table, active, sha1Bank, sha256Bank}
 use Rattle.bank.specs.Registers.{digestsLength, registersLength, value, extend, extendAll, hashes, resetAll}
 use Rattle.bank.proofs.Turns.{rest}
-use Rattle.bank.proofs.Laws.{All as AllBanks, Lawful, Every, every-banks, Laid, laid-after, laid-banks, banks-1, banks-2, length-extend, length-extendAll, length-resetAll, value-extend-same, value-extend-other, value-extend-apart}
+use Rattle.bank.proofs.Laws.{All as AllBanks, Lawful, Every, every-banks, Laid, laid-after, laid-banks, banks-1, banks-2, valid-cases, length-extend, length-extendAll, length-resetAll, value-extend-same, value-extend-other, value-extend-apart}
 use Rattle.history.specs.History.{Measure, extendBy, made}
-use Rattle.history.proofs.Fits.{valid-cases}
 use Rattle.history.proofs.Good.{GoodMeasure, All}
 
 -- a bank's registers stand before or behind another's

@@ -12,7 +12,7 @@ use lib.Dec.{eqb}
 use lib.ListN.{length, take, length-take}
 use Rattle.bank.specs.Bank.{Bank, banks, active, sha1Bank, sha256Bank}
 use Rattle.bank.specs.Registers.{resetAll}
-use Rattle.bank.proofs.Laws.{Every, every-banks, few-banks, banks-1}
+use Rattle.bank.proofs.Laws.{Every, every-banks, few-banks, banks-1, valid-cases}
 use Rattle.entry.specs.Entry.{logLimit}
 use Rattle.entry.specs.Form.{Form, old, agile}
 use Rattle.entry.specs.Header.{headerBytes, headerLength, find}
@@ -26,7 +26,7 @@ use Rattle.replay.specs.Walk.{sum}
 use Rattle.replay.specs.Replay.{BeginOutcome, SliceOutcome, begun, notBegun, fresh, beginOf, isGiven, formOf}
 use Rattle.history.specs.History.{Call, Panel, run, opening, Measure, entryOf, bytesIn, plain, accepted, logged, cutOff, allBytes, recorded, made}
 use Rattle.history.specs.Replayed.{replayed}
-use Rattle.history.proofs.Fits.{Fit, valid-cases, agile-least, old-least, fit-belongs}
+use Rattle.history.proofs.Fits.{Fit, agile-least, old-least, fit-belongs}
 use Rattle.history.proofs.Stores.{fitting-all}
 use Rattle.history.proofs.Runs.{logged-all}
 use Rattle.history.proofs.Kept.{fit-after, registers-are, agile-bytes, agile-closed, old-bytes, old-closed}

@@ -2,7 +2,6 @@
 -- limit. Assumes nothing.
 use mathlib.Core.Bool.{Bool, true, false, _||_}
 use mathlib.Core.List.{List, [], _∷_}
-use mathlib.Core.Logic.{_⊎_, inl, inr}
 use mathlib.Core.Path.{_≡_, refl, ap, _∙_}
 use Prim.Native.Nat.{ℕ, _+_, _*_, _≤_, _<_}
 use native.Mathlib.Omega.{arith}
@@ -11,12 +10,11 @@ use lib.Dec.{leb, eqb}
 use lib.ListN.{length}
 use lib.Seq.{sets}
 use Rattle.wire.specs.Bytes.{le}
-use Rattle.wire.proofs.Tests.{both}
 use Rattle.bank.specs.Bank.{valid, banks, active, sha1Bank}
-use Rattle.bank.proofs.Laws.{Every, every-banks, banks-1, banks-2, banks-3}
-use Rattle.entry.specs.Entry.{logLimit, oldBytes, agileBytes, oldLength, agileLength, digestsLengthOf}
+use Rattle.bank.proofs.Laws.{Every, every-banks, banks-1}
+use Rattle.entry.specs.Entry.{logLimit, oldBytes, agileBytes, oldLength, agileLength}
 use Rattle.entry.specs.Header.{headerLength}
-use Rattle.entry.proofs.Laws.{length-old, length-agile, fits-hashes}
+use Rattle.entry.proofs.Laws.{length-old, length-agile, fits-hashes, digests-least}
 use Rattle.store.specs.Store.{countLimit, Offered, offered, TableOffered, tableOffered}
 use Rattle.service.specs.State.{belongs, lastFits}
 use Rattle.request.specs.Request.{extendOnly, offerIf, offerTableIf}
@@ -26,32 +24,6 @@ use Rattle.history.proofs.Stores.{length-sets, offer-closed, offer-take
 use Rattle.history.proofs.Steps.{Belongs, oldOf, agileOf, finalOf, extendedPanel, loggedPanel, armedPanel, step-bad, step-only, step-logged, step-reading, old-logged, agile-logged, final-logged, bitmap-logged}
 
 -- ---- the lengths of entries
-
--- a bitmap of the table's banks
-pub valid-cases : (bitmap : ℕ) → valid bitmap ≡ true → (bitmap ≡ 1) ⊎ ((bitmap ≡ 2) ⊎ (bitmap ≡ 3))
-unfolding valid
-valid-cases bitmap h =
-    let b = both (leb 1 bitmap) (leb bitmap 3) h in
-    let l : 1 ≤ bitmap = leb-true _ _ (b .0) in
-    let u : bitmap ≤ 3 = leb-true _ _ (b .1) in
-    go (eqb bitmap 1) (eqb bitmap 2) refl refl l u
-  where
-    go : (a c : Bool) → eqb bitmap 1 ≡ a → eqb bitmap 2 ≡ c → 1 ≤ bitmap → bitmap ≤ 3 → (bitmap ≡ 1) ⊎ ((bitmap ≡ 2) ⊎ (bitmap ≡ 3))
-    go true c e f l u = inl (borrow.Author.Tests.eqb-true _ _ e)
-    go false true e f l u = inr (inl (borrow.Author.Tests.eqb-true _ _ f))
-    go false false e f l u =
-        let n1 : bitmap ≡ 1 → ⊥ = borrow.Author.Tests.eqb-false _ _ e in
-        let n2 : bitmap ≡ 2 → ⊥ = borrow.Author.Tests.eqb-false _ _ f in
-        inr (inr (omega (arith, n1, n2)))
-
--- the digests of any bitmap of the table have at least 22 bytes
-pub digests-least : (bitmap : ℕ) → valid bitmap ≡ true → 22 ≤ digestsLengthOf (banks bitmap)
-digests-least bitmap h = go (valid-cases bitmap h)
-  where
-    go : (bitmap ≡ 1) ⊎ ((bitmap ≡ 2) ⊎ (bitmap ≡ 3)) → 22 ≤ digestsLengthOf (banks bitmap)
-    go (inl e) = rw (e, banks-1) (unfold digestsLengthOf in omega arith)
-    go (inr (inl e)) = rw (e, banks-2) (unfold digestsLengthOf in omega arith)
-    go (inr (inr e)) = rw (e, banks-3) (unfold digestsLengthOf in omega arith)
 
 pub agile-least : (bitmap : ℕ) (m : Measure) → valid bitmap ≡ true → 38 ≤ length (agileBytes (banks bitmap) (entryOf (banks bitmap) m))
 agile-least bitmap m h =

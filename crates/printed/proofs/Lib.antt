@@ -6,3 +6,7 @@ pub mod Lengths
 pub mod Prints
 -- the output for the header alone
 pub mod Examples
+-- the digits of a number spell it
+pub mod Digits
+-- the slice that is printed takes the whole log
+pub mod Whole

@@ -1,3 +1,4 @@
 pub mod Digests
 pub mod Calls
+pub mod Replays
 pub mod Examples

@@ -1,4 +1,5 @@
 // The calls that the washer's firmware links. A slice is a pointer and a length in C.
+use replay::Replay;
 use service::State;
 use service::Status;
 use store::Last;
@@ -11,12 +12,17 @@ ghost use Rattle.sha256.specs.Sha256.{sha256};
 ghost use Rattle.service.specs.Status.{number};
 ghost use Rattle.layout.specs.Layout.{stateLength};
 ghost use Rattle.panel.specs.Digests.{onWire, outcome, digested, extended};
+ghost use Rattle.placed.specs.Placed.{replayLength};
 ghost use Rattle.panel.specs.Calls.{callOutcome, keptIf, openCall, requestCall, readCallOutcome, filled, nothing, readCall};
+ghost use Rattle.panel.specs.Replays.{beginCallOutcome, beginCall, carriedIf, sliceCallOutcome, sliceCall};
 
 // 01, When the panel answers no: invalid parameter and device error, on the wire.
 const INVALID: u64 = 0x8000_0000_0000_0002;
 
 const DEVICE: u64 = 0x8000_0000_0000_0007;
+
+// 01, Replay: a place beyond the log, or no replay at all. Replay's numbers stand as they are.
+const PLACE_BEYOND: u64 = 35;
 
 // Fills digest, which must be 20 bytes, with the SHA-1 digest of message.
 #[no_mangle]
@@ -213,4 +219,52 @@ pub extern "C" fn sevgharin_read_log(
     );
     keep(state, n == 0, s);
     on_wire(n)
+}
+
+// Begins the replay of a log's used bytes. replay must be placed::REPLAY bytes, and is overwritten.
+#[no_mangle]
+pub extern "C" fn sevgharin_begin(replay: &mut [u8], format: u32, log: &[u8]) -> u64
+    ensures { λ r. ⌜ beginCallOutcome r (now (replay .exit)) ≡ beginCall (now (replay .entry)) format (now (log .entry)) ⌝ }
+{
+    if replay.len() != placed::REPLAY {
+        return PLACE_BEYOND;
+    }
+    let r = replay::begin(format, log);
+    let p = r.replay;
+    let stop = r.stop;
+    placed::put_replay(replay, p);
+    placed::number_of(stop)
+}
+
+// Writes a replay that a slice has moved on back.
+fn carry(replay: &mut [u8], moved: bool, p: Replay)
+    requires { ⌜ length (now replay) ≡ replayLength ⌝ }
+    ensures { λ _. ⌜ now (replay .exit) ≡ carriedIf moved p (now (replay .entry)) ⌝ }
+{
+    if moved {
+        placed::put_replay(replay, p);
+    }
+}
+
+// Takes at most so many entries as asked. answer must be placed::ANSWER bytes, and is filled with the entries taken, the refusal's number and
+// offset, and whether the replay is done.
+#[no_mangle]
+pub extern "C" fn sevgharin_slice(
+    replay: &mut [u8],
+    log: &[u8],
+    asked: u64,
+    answer: &mut [u8],
+) -> u64
+    ensures { λ r. ⌜ sliceCallOutcome r (now (replay .exit)) (now (answer .exit)) ≡ sliceCall (now (replay .entry)) (now (log .entry)) asked (now (answer .entry)) ⌝ }
+{
+    if !((replay.len() == placed::REPLAY) & (answer.len() == placed::ANSWER)) {
+        return PLACE_BEYOND;
+    }
+    let r = placed::replay_at(replay).slice(log, asked as usize);
+    let p = r.replay;
+    let stop = r.stop;
+    let n = placed::number_of(stop);
+    placed::put_answer(answer, r.taken, n, placed::offset_of(stop), r.done);
+    carry(replay, n <= 34, p);
+    n
 }

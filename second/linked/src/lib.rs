@@ -71,6 +71,24 @@ extern "C" {
         answer: *mut u8,
         answer_len: usize,
     ) -> u64;
+
+    fn sevgharin_begin(
+        replay: *mut u8,
+        replay_len: usize,
+        format: u32,
+        log: *const u8,
+        log_len: usize,
+    ) -> u64;
+
+    fn sevgharin_slice(
+        replay: *mut u8,
+        replay_len: usize,
+        log: *const u8,
+        log_len: usize,
+        asked: u64,
+        answer: *mut u8,
+        answer_len: usize,
+    ) -> u64;
 }
 
 // SAFETY, of every call below: each pointer and length come from one live
@@ -189,6 +207,36 @@ pub fn read_log(
             agile.len(),
             table.as_ptr(),
             table.len(),
+            answer.as_mut_ptr(),
+            answer.len(),
+        )
+    }
+}
+
+/// Begins the replay of a log's used octets: writes the replay, which must be
+/// 1,264 octets.
+pub fn begin(replay: &mut [u8], format: u32, log: &[u8]) -> u64 {
+    unsafe {
+        sevgharin_begin(
+            replay.as_mut_ptr(),
+            replay.len(),
+            format,
+            log.as_ptr(),
+            log.len(),
+        )
+    }
+}
+
+/// Takes at most `asked` entries of the log, moves the replay on, and writes
+/// what it did to `answer`, which must be 25 octets.
+pub fn slice(replay: &mut [u8], log: &[u8], asked: u64, answer: &mut [u8]) -> u64 {
+    unsafe {
+        sevgharin_slice(
+            replay.as_mut_ptr(),
+            replay.len(),
+            log.as_ptr(),
+            log.len(),
+            asked,
             answer.as_mut_ptr(),
             answer.len(),
         )

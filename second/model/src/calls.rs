@@ -1,6 +1,9 @@
-//! The C calls of opening, requests and readings: document 01's, over a state
-//! that lies in lent bytes.
+//! The C calls: document 01's opening, requests and readings over a state that
+//! lies in lent bytes, and its replay over one that lies in lent bytes.
 
+use crate::replay::{
+    self, answer_bytes, replay_bytes, replay_from, Replay, ANSWER_BYTES, REPLAY_BYTES,
+};
 use crate::service::{
     self, marks_bytes, state_bytes, state_from, Buffers, Lengths, Status, MARKS_BYTES, STATE_BYTES,
 };
@@ -11,17 +14,27 @@ pub struct Calls {
     pub open: Open,
     pub request: Request,
     pub read_log: ReadLog,
+    pub begin: Begin,
+    pub slice: Slice,
 }
 
 pub type Open = fn(&mut [u8], u32, &mut [u8], &mut [u8], &mut [u8]) -> u64;
 pub type Request = fn(&mut [u8], u64, &[u8], &[u8], &mut [u8], &mut [u8], &mut [u8]) -> u64;
 pub type ReadLog = fn(&mut [u8], u32, &[u8], &[u8], &[u8], &mut [u8]) -> u64;
+pub type Begin = fn(&mut [u8], u32, &[u8]) -> u64;
+pub type Slice = fn(&mut [u8], &[u8], u64, &mut [u8]) -> u64;
 
 pub const MODEL: Calls = Calls {
     open,
     request,
     read_log,
+    begin,
+    slice,
 };
+
+/// What a replay's call answers where a buffer has another length. A replay's
+/// numbers have no error bit.
+const WRONG_LENGTH: u64 = 35;
 
 /// The state handed out is written, the blank one of a refused opening too.
 pub fn open(
@@ -101,6 +114,36 @@ pub fn read_log(
         answer.copy_from_slice(&marks_bytes(&marks));
     }
     status.wire()
+}
+
+/// The replay is written, the all-zero one of a refused beginning too.
+pub fn begin(replay: &mut [u8], format: u32, log: &[u8]) -> u64 {
+    if replay.len() != REPLAY_BYTES {
+        return WRONG_LENGTH;
+    }
+    let (number, begun) = match replay::begin(format, log) {
+        Ok(begun) => (0, begun),
+        Err(refused) => (refused.number, Replay::zero()),
+    };
+    replay.copy_from_slice(&replay_bytes(&begun));
+    number
+}
+
+/// The replay is written on 0 and on 31 to 34, the answer record always.
+pub fn slice(replay: &mut [u8], log: &[u8], asked: u64, answer: &mut [u8]) -> u64 {
+    let Some(mut kept) = replay_from(replay) else {
+        return WRONG_LENGTH;
+    };
+    if answer.len() != ANSWER_BYTES {
+        return WRONG_LENGTH;
+    }
+    let told = replay::slice(&mut kept, log, asked);
+    answer.copy_from_slice(&answer_bytes(&told));
+    let number = told.refused.map_or(0, |refused| refused.number);
+    if !matches!(number, 35 | 36) {
+        replay.copy_from_slice(&replay_bytes(&kept));
+    }
+    number
 }
 
 #[cfg(test)]
@@ -185,5 +228,62 @@ mod tests {
         assert_eq!(state, before);
         assert_eq!(call(&mut state[1..], 0), DEVICE_ERROR);
         assert_eq!((agile, table), ([0xa5; 69], [0xa5; 16]));
+    }
+
+    #[test]
+    fn beginnings() {
+        for len in [0, 1_263, 1_265] {
+            let mut replay = vec![0xa5; len];
+            assert_eq!(begin(&mut replay, 3, &[]), 35);
+            assert_eq!(replay, vec![0xa5; len]);
+        }
+        for (format, number) in [(3, 38), (2, 37)] {
+            let mut replay = [0xa5; REPLAY_BYTES];
+            assert_eq!(begin(&mut replay, format, &[]), number);
+            assert_eq!(replay, [0; REPLAY_BYTES]);
+        }
+        let mut replay = [0xa5; REPLAY_BYTES];
+        assert_eq!(begin(&mut replay, 1, &[]), 0);
+        assert_eq!(
+            replay[..16],
+            [1, 0, 0, 0, 1, 0, 0, 0, 0, 0, 0, 0, 0, 0, 0, 0]
+        );
+        assert_eq!((replay[16 + 17 * 20], replay[16 + 23 * 20]), (0xff, 0));
+    }
+
+    #[test]
+    fn slices() {
+        // Two entries of the 1.2 log; the second's register is 24.
+        let mut log = [0; 64];
+        log[32] = 24;
+        let mut begun = [0; REPLAY_BYTES];
+        assert_eq!(begin(&mut begun, 1, &log), 0);
+        for (len, answer_len) in [(1_263, 25), (1_264, 24), (1_264, 26), (0, 0)] {
+            let mut replay = begun[..len].to_vec();
+            let mut answer = vec![0xa5; answer_len];
+            assert_eq!(slice(&mut replay, &log, 1, &mut answer), 35);
+            assert_eq!(
+                (&replay[..], answer),
+                (&begun[..len], vec![0xa5; answer_len])
+            );
+        }
+        let mut replay = begun;
+        let mut answer = [0xa5; 25];
+        assert_eq!(slice(&mut replay, &log, 9, &mut answer), 32);
+        assert_eq!(
+            (answer[0], answer[8], answer[16], answer[24]),
+            (1, 32, 32, 0)
+        );
+        assert_eq!(replay[8], 32);
+        assert_ne!(replay[16..], begun[16..]);
+        // A place beyond the log, and a log that is too long, leave it.
+        let before = replay;
+        for (log, number) in [(vec![0; 31], 35), (vec![0; 65_537], 36)] {
+            assert_eq!(slice(&mut replay, &log, 9, &mut answer), number);
+            assert_eq!((answer[0], answer[8], answer[16]), (0, number as u8, 32));
+            assert_eq!(replay, before);
+        }
+        assert_eq!(slice(&mut replay, &log[..32], 0, &mut answer), 0);
+        assert_eq!(answer[24], 1);
     }
 }

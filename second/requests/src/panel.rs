@@ -15,6 +15,8 @@ pub const PROVED: Calls = Calls {
     open: linked::open,
     request: linked::request,
     read_log: linked::read_log,
+    begin: linked::begin,
+    slice: linked::slice,
 };
 
 pub struct Panel {

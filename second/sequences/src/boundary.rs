@@ -31,7 +31,7 @@ fn begin<'a>(run: &'a mut Run, what: &str) -> (Sequence<'a>, Random) {
 }
 
 /// A sequence that lends buffers of these lengths and opens.
-fn opened<'a>(
+pub fn opened<'a>(
     run: &'a mut Run,
     what: &str,
     bitmap: u32,
@@ -45,7 +45,7 @@ fn opened<'a>(
     (sequence, random)
 }
 
-fn good(random: &mut Random) -> Asked {
+pub fn good(random: &mut Random) -> Asked {
     let event = random.below(12);
     let data = 1 + random.below(70);
     Asked::good(random, event, data)

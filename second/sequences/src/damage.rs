@@ -1,10 +1,11 @@
 //! States damaged in every way that 01 lists under "A state doesn't belong
-//! when", each just inside and just outside, and bytes that encode no state.
+//! when", each just inside and just outside, and bytes that encode no state;
+//! replays damaged in every way that 35 lists.
 
 use crate::memory::Memory;
 use crate::step::{Buffer, Step};
 
-/// A field of a state's layout.
+/// A field of a state's or a replay's layout.
 #[derive(Clone, Copy)]
 pub struct Field {
     name: &'static str,
@@ -12,7 +13,7 @@ pub struct Field {
     len: usize,
 }
 
-const fn field(name: &'static str, place: usize, len: usize) -> Field {
+pub const fn field(name: &'static str, place: usize, len: usize) -> Field {
     Field { name, place, len }
 }
 
@@ -22,6 +23,10 @@ const TABLE_CLOSED: Field = field("table closed", 48, 1);
 const COUNT: Field = field("table count", 49, 8);
 pub const ARMED: Field = field("armed", 57, 1);
 const FULL: Field = field("11 given", 58, 1);
+
+pub const FORMAT: Field = field("format", 0, 4);
+pub const BANKS: Field = field("banks", 4, 4);
+pub const PLACE: Field = field("place", 8, 8);
 
 /// The fields of a log's marks.
 #[derive(Clone, Copy)]
@@ -47,16 +52,16 @@ pub const AGILE: Marks = Marks {
 };
 
 impl Field {
-    /// The field of a state; 0 where the bytes are too few.
-    pub fn get(self, state: &[u8]) -> u64 {
-        let bytes = state.get(self.place..self.place + self.len);
+    /// The field in the bytes; 0 where they are too few.
+    pub fn get(self, bytes: &[u8]) -> u64 {
+        let bytes = bytes.get(self.place..self.place + self.len);
         let bytes = bytes.unwrap_or(&[]).iter().rev();
         bytes.fold(0, |value, &byte| value << 8 | u64::from(byte))
     }
 
-    fn put(self, state: &mut [u8], value: u64) {
+    fn put(self, into: &mut [u8], value: u64) {
         let bytes = &value.to_le_bytes()[..self.len];
-        state[self.place..self.place + self.len].copy_from_slice(bytes);
+        into[self.place..self.place + self.len].copy_from_slice(bytes);
     }
 }
 
@@ -65,15 +70,61 @@ pub type Damage = Vec<(Field, u64)>;
 
 /// The step that lends the damaged state.
 pub fn step(state: &[u8], damage: &Damage) -> Step {
-    let mut state = state.to_vec();
+    let (state, words) = damaged(state, damage);
+    Step::State(state, words)
+}
+
+/// The step that lends the damaged replay.
+pub fn replay_step(replay: &[u8], damage: &Damage) -> Step {
+    let (replay, words) = damaged(replay, damage);
+    Step::Replay(replay, words)
+}
+
+/// The damaged bytes, and what is changed.
+pub fn damaged(bytes: &[u8], damage: &Damage) -> (Vec<u8>, String) {
+    let mut bytes = bytes.to_vec();
     for &(field, value) in damage {
-        field.put(&mut state, value);
+        field.put(&mut bytes, value);
     }
     let words: Vec<String> = damage
         .iter()
         .map(|(field, value)| format!("{} {value}", field.name))
         .collect();
-    Step::State(state, words.join(", "))
+    (bytes, words.join(", "))
+}
+
+/// Formats and banks that a beginning gives, and that none gives; places about
+/// the log's length and in front of it.
+pub fn replay_damages(log: u64) -> Vec<Damage> {
+    let high = 1 << 31;
+    let formats = [0, 1, 2, 3, 4, 0x101, 0x102, 0x1_0001, high + 1, high + 2];
+    let banks = [
+        0,
+        1,
+        2,
+        3,
+        4,
+        5,
+        7,
+        0x101,
+        0x1_0003,
+        high,
+        high + 3,
+        0xffff_ffff,
+    ];
+    let mut all = Vec::new();
+    for format in formats {
+        for banks in banks {
+            all.push(vec![(FORMAT, format), (BANKS, banks)]);
+            all.push(vec![(FORMAT, format), (BANKS, banks), (PLACE, 0)]);
+        }
+    }
+    let near = [0, 1, 32, 64, 65, 66, 68, 69, 70];
+    for place in around(log).into_iter().chain(near) {
+        all.push(vec![(PLACE, place)]);
+        all.push(vec![(BANKS, 4), (PLACE, place)]);
+    }
+    all
 }
 
 /// A store used up to `used`; the last byte is a log's last entry.
@@ -108,7 +159,7 @@ fn bitmaps() -> Vec<Damage> {
 
 /// The values around a bound, and far from it: near the limits of 32 and of 64
 /// bits, where a shortened number would look good.
-fn around(bound: u64) -> Vec<u64> {
+pub fn around(bound: u64) -> Vec<u64> {
     let low = bound.wrapping_sub(1);
     let mut values = vec![bound, bound + 1, bound + (1 << 32), bound + (1 << 63)];
     values.extend((bound > 0).then_some(low));

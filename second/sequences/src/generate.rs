@@ -1,11 +1,12 @@
 //! Random sequences, each repeatable from the seed and its number.
 
 use crate::asked::{variations, Asked, Variation};
-use crate::damage::{self, damages};
+use crate::damage::{self, damages, replay_damages};
 use crate::run::{Run, Sequence};
 use crate::step::{Buffer, Step, BUFFERS};
-use crate::stores::{bitmap, entry_len, first_used, resized, used};
+use crate::stores::{bitmap, entry_len, first_used, resized, used, written};
 use model::random::Random;
+use model::replay::{ANSWER_BYTES, REPLAY_BYTES};
 use model::service::{LONGEST, MARKS_BYTES, STATE_BYTES};
 
 /// A sequence has at least so many calls.
@@ -43,7 +44,8 @@ impl Generator {
     }
 
     fn turn(&mut self, sequence: &mut Sequence) {
-        match self.random.below(24) {
+        match self.random.below(27) {
+            24.. => self.replay(sequence),
             0 => self.open(sequence),
             1 | 2 => self.damaged(sequence),
             3 => self.other_state(sequence),
@@ -217,6 +219,93 @@ impl Generator {
         if !self.random.one_in(4) {
             sequence.make(Step::Lend(buffer, before));
         }
+    }
+
+    /// A beginning and slices of a log that was written, mostly as it stands.
+    fn replay(&mut self, sequence: &mut Sequence) {
+        let format = self.random.pick(&[1, 2]);
+        self.log(sequence, format);
+        if self.random.one_in(8) {
+            let len = self
+                .random
+                .pick(&[0, 1, REPLAY_BYTES - 1, REPLAY_BYTES + 1]);
+            let len = self.random.pick(&[len, REPLAY_BYTES, REPLAY_BYTES]);
+            let bytes = self.random.octets(len);
+            sequence.make(Step::Replay(bytes, "any bytes".to_string()));
+        }
+        let format = match self.random.below(12) {
+            0 => self.random.pick(&[0, 3, 4, 0x101, 0x102, (1 << 31) + 2]),
+            1 => 3 - format,
+            _ => format,
+        };
+        sequence.make(Step::Begin { format });
+        for _ in 0..=self.random.below(4) {
+            match self.random.below(12) {
+                0 => self.damaged_replay(sequence),
+                1 => self.log(sequence, format),
+                _ => (),
+            }
+            self.slice(sequence);
+        }
+    }
+
+    /// Lends a log to replays: the used bytes, or those cut, with bytes behind
+    /// them, with bits turned, or too many.
+    fn log(&mut self, sequence: &mut Sequence, format: u32) {
+        let random = &mut self.random;
+        let mut log = written(sequence.memory(), format);
+        let words = match random.below(12) {
+            0 => {
+                log.truncate(random.below(log.len() + 1));
+                "cut"
+            }
+            1 => {
+                let behind = random.below(100);
+                log.extend(random.octets(behind));
+                "bytes behind it"
+            }
+            2 | 3 if !log.is_empty() => {
+                for _ in 0..=random.below(2) {
+                    let place = random.below(log.len());
+                    log[place] ^= 1 << random.below(8);
+                }
+                "bits turned"
+            }
+            4 if random.one_in(8) => {
+                log.resize(random.pick(&[LONGEST, LONGEST + 1]), 0);
+                "zeros behind it"
+            }
+            _ => "as written",
+        };
+        sequence.make(Step::Log(log, words.to_string()));
+    }
+
+    fn damaged_replay(&mut self, sequence: &mut Sequence) {
+        let memory = sequence.memory();
+        let mut replay = memory.replay.get().to_vec();
+        if replay.len() != REPLAY_BYTES {
+            return;
+        }
+        let step = if self.random.one_in(3) {
+            let place = self.random.below(REPLAY_BYTES);
+            replay[place] ^= 1 << self.random.below(8);
+            Step::Replay(replay, "one bit turned".to_string())
+        } else {
+            let all = replay_damages(memory.log.len() as u64);
+            damage::replay_step(&replay, &all[self.random.below(all.len())])
+        };
+        sequence.make(step);
+    }
+
+    fn slice(&mut self, sequence: &mut Sequence) {
+        let random = &mut self.random;
+        let asked = random.pick(&[0, 1, 1, 1, 2, 3, 5, 1 << 32, u64::MAX]);
+        let len = match random.below(16) {
+            0 => random.pick(&[0, 1, 24, 26, 50]),
+            _ => ANSWER_BYTES,
+        };
+        let answer = random.octets(len);
+        sequence.make(Step::Slice { asked, answer });
     }
 
     fn call(&mut self, sequence: &mut Sequence) {

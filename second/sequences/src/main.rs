@@ -1,17 +1,20 @@
-//! Compares opening, requests and readings of the proved library, linked as C,
-//! with the model, call by call: boundary sequences, then random ones.
+//! Compares opening, requests, readings, beginnings and slices of the proved
+//! library, linked as C, with the model, call by call: boundary sequences, then
+//! random ones.
 
 mod asked;
 mod boundary;
 mod damage;
 mod generate;
 mod memory;
+mod replays;
 mod run;
 mod step;
 mod stores;
 
 use boundary::boundaries;
 use generate::Generator;
+use replays::replays;
 use run::Run;
 use std::process::ExitCode;
 
@@ -22,6 +25,7 @@ fn main() -> ExitCode {
     };
     let mut run = Run::new();
     boundaries(&mut run);
+    replays(&mut run);
     println!("{} boundary sequences", run.sequences);
     println!("{count} random sequences, seed {seed}");
     let mut generator = Generator::new();

@@ -1,5 +1,6 @@
 //! What a caller of the library lends.
 
+use model::replay::REPLAY_BYTES;
 use model::service::STATE_BYTES;
 
 /// Bytes lent to a call, between guards that it must not touch.
@@ -65,11 +66,15 @@ pub struct Memory {
     pub table: Lent,
     pub request: Lent,
     pub data: Lent,
+    /// A replay, and the log that it is a replay of.
+    pub replay: Lent,
+    pub log: Lent,
+    /// The answer record of a reading or of a slice.
     pub answer: Lent,
 }
 
 impl Memory {
-    /// No buffers yet, and a state that no call has written.
+    /// No buffers yet, and a state and a replay that no call has written.
     pub fn new() -> Memory {
         let none = Lent::new(&[], 0);
         Memory {
@@ -79,6 +84,8 @@ impl Memory {
             table: none.clone(),
             request: none.clone(),
             data: none.clone(),
+            replay: Lent::new(&[0xa5; REPLAY_BYTES], 0),
+            log: none.clone(),
             answer: none,
         }
     }
@@ -92,6 +99,8 @@ impl Memory {
             ("table buffer", &self.table, &wanted.table),
             ("request", &self.request, &wanted.request),
             ("data", &self.data, &wanted.data),
+            ("replay", &self.replay, &wanted.replay),
+            ("log", &self.log, &wanted.log),
             ("answer record", &self.answer, &wanted.answer),
         ];
         let words = |(name, a, b): (&str, &Lent, &Lent)| {

@@ -4,11 +4,14 @@ use crate::memory::Memory;
 use crate::step::{Step, LIBRARY};
 use model::calls::MODEL;
 
-/// The statuses that can occur, by call, 01, "When the panel answers no".
-const POSSIBLE: [(&str, &[u64]); 3] = [
+/// The statuses that can occur, by call, 01, "When the panel answers no" and
+/// "Replay".
+const POSSIBLE: [(&str, &[u64]); 5] = [
     ("open", &[0, 2, 5]),
     ("request", &[0, 2, 3, 7, 11]),
     ("read_log", &[0, 2, 7]),
+    ("begin", &[0, 35, 36, 37, 38]),
+    ("slice", &[0, 31, 32, 33, 34, 35, 36]),
 ];
 
 /// More sequences than these that differ are counted, not shown.

@@ -58,22 +58,39 @@ pub enum Step {
         format: u32,
         answer: Vec<u8>,
     },
+    /// The replay's buffer holds these bytes from here on; the words say what
+    /// is changed.
+    Replay(Vec<u8>, String),
+    /// The log that is replayed from here on, and what it is.
+    Log(Vec<u8>, String),
+    Begin {
+        format: u32,
+    },
+    /// The answer record holds these bytes before the call.
+    Slice {
+        asked: u64,
+        answer: Vec<u8>,
+    },
 }
 
 pub const LIBRARY: Calls = Calls {
     open: linked::open,
     request: linked::request,
     read_log: linked::read_log,
+    begin: linked::begin,
+    slice: linked::slice,
 };
 
 impl Step {
     /// The name of the call, if the step is one.
     pub fn call(&self) -> Option<&'static str> {
         match self {
-            Step::Lend(..) | Step::State(..) => None,
+            Step::Lend(..) | Step::State(..) | Step::Replay(..) | Step::Log(..) => None,
             Step::Open { .. } => Some("open"),
             Step::Request { .. } => Some("request"),
             Step::Read { .. } => Some("read_log"),
+            Step::Begin { .. } => Some("begin"),
+            Step::Slice { .. } => Some("slice"),
         }
     }
 
@@ -123,6 +140,28 @@ impl Step {
                     memory.answer.get_mut(),
                 ))
             }
+            Step::Replay(bytes, _) => {
+                memory.replay = Lent::new(bytes, shift);
+                None
+            }
+            Step::Log(bytes, _) => {
+                memory.log = Lent::new(bytes, shift);
+                None
+            }
+            Step::Begin { format } => Some((calls.begin)(
+                memory.replay.get_mut(),
+                *format,
+                memory.log.get(),
+            )),
+            Step::Slice { asked, answer } => {
+                memory.answer = Lent::new(answer, shift);
+                Some((calls.slice)(
+                    memory.replay.get_mut(),
+                    memory.log.get(),
+                    *asked,
+                    memory.answer.get_mut(),
+                ))
+            }
         }
     }
 
@@ -146,6 +185,15 @@ impl Step {
             ),
             Step::Read { format, answer } => format!(
                 "read the log of format {format} into a record of {} bytes",
+                answer.len()
+            ),
+            Step::Replay(bytes, words) => {
+                format!("lend {} bytes as the replay: {words}", bytes.len())
+            }
+            Step::Log(bytes, words) => format!("lend a log of {} bytes: {words}", bytes.len()),
+            Step::Begin { format } => format!("begin with format {format}"),
+            Step::Slice { asked, answer } => format!(
+                "take a slice of {asked} into a record of {} bytes",
                 answer.len()
             ),
         }

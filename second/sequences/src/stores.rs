@@ -40,6 +40,17 @@ pub fn used(memory: &Memory, buffer: Buffer) -> u64 {
     field.get(memory.state.get())
 }
 
+/// The used bytes of the log of a format, as far as there are so many.
+pub fn written(memory: &Memory, format: u32) -> Vec<u8> {
+    let buffer = match format {
+        1 => Buffer::Log12,
+        _ => Buffer::Agile,
+    };
+    let bytes = buffer.of(memory).get();
+    let used = used(memory, buffer).min(bytes.len() as u64);
+    bytes[..used as usize].to_vec()
+}
+
 /// The step that gives a buffer another length, its bytes kept.
 pub fn resized(memory: &Memory, buffer: Buffer, len: usize, random: &mut Random) -> Step {
     let mut bytes = buffer.of(memory).get().to_vec();

@@ -4,6 +4,8 @@ pub mod Laws
 pub mod Lengths
 -- the whole output
 pub mod Prints
+-- what is printed, case by case
+pub mod Answers
 -- the output for the header alone
 pub mod Examples
 -- the digits of a number spell it

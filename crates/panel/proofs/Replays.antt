@@ -1,18 +1,21 @@
 -- The exported calls over a replay in lent bytes: no second outcome meets what one states, 35 and 36 leave the replay's bytes, a refused beginning
--- writes zeros, and buffers of another length stay. Assumes nothing.
+-- writes zeros, buffers of another length stay, and what a call leaves encodes the replay that it hands back. Assumes nothing.
 use mathlib.Core.Bool.{Bool, true, false}
-use mathlib.Core.List.{List, _++_}
+use mathlib.Core.List.{List}
 use mathlib.Core.Logic.{_⊎_, inl, inr}
 use mathlib.Core.Path.{_≡_, refl, sym, ap, _∙_}
 use Prim.Native.Nat.{ℕ}
 use borrow.Author.Tests.{eq-eqb}
+use lib.Dec.{leb}
 use lib.ListN.{length, replicate}
-use Rattle.wire.specs.Bytes.{le}
-use Rattle.replay.specs.Replay.{blank, BeginOutcome, notBegun, beginOf, sliceOf}
+use Rattle.wire.specs.Bytes.{le, Bytes}
+use Rattle.replay.specs.Replay.{blank, BeginOutcome, beginOf, sliceOf}
 use Rattle.replay.proofs.Begins.{refused-blank}
 use Rattle.placed.specs.Placed.{replayBytes, replayLength, replayIn}
+use Rattle.placed.proofs.Codec.{decode-encode, held-in}
+use Rattle.placed.proofs.Holds.{held-begin, held-slice, kept-slice}
 use Rattle.panel.specs.Replays.{BeginCallOutcome, beginCallOutcome, beginCall, carriedIf, SliceCallOutcome, sliceCallOutcome, sliceCall}
-use Rattle.panel.proofs.Slices.{sized, begin-short, slice-short}
+use Rattle.panel.proofs.Slices.{sized, replay-sized, begin-short, slice-short}
 
 -- ---- no second outcome
 
@@ -60,6 +63,11 @@ module _ (replay : List ℕ) (format : ℕ) (log : List ℕ) where
   unfolding beginCall
   begin-number h = rw (eq-eqb _ _ h)
 
+  -- the bytes that a beginning leaves encode the replay that it gives
+  pub begin-carries : length replay ≡ replayLength → replayIn (beginCall replay format log .replay) ≡ beginOf format log .replay
+  unfolding beginCall
+  begin-carries h = rw (eq-eqb _ _ h) (decode-encode (beginOf format log .replay) (held-begin format log) .1)
+
   -- 01: "a failed beginning gives .. a replay whose format, banks, place and registers are 0"
   pub begin-zeros : length replay ≡ replayLength → (beginOf format log .number ≡ 0 → ⊥)
       → beginCall replay format log ≡ beginCallOutcome (beginOf format log .number) (replicate replayLength 0)
@@ -99,3 +107,21 @@ module _ (replay log : List ℕ) (asked : ℕ) (answer : List ℕ) where
       go true h (inl e) = stays-35 h (sym (slice-number h) ∙ e)
       go true h (inr e) = stays-36 h (sym (slice-number h) ∙ e)
       go false h e = ap (λ (x : SliceCallOutcome). x .replay) (slice-unchanged h)
+
+  written : sized replay answer ≡ true → leb (sliceOf (replayIn replay) log asked .number) 34 ≡ true → call .replay ≡ replayBytes (sliceOf (replayIn replay) log asked .replay)
+  unfolding sliceCall carriedIf
+  written h e = rw (h, e)
+
+  not-written : sized replay answer ≡ true → leb (sliceOf (replayIn replay) log asked .number) 34 ≡ false → call .replay ≡ replay
+  unfolding sliceCall carriedIf
+  not-written h e = rw (h, e)
+
+  -- the bytes that a slice leaves encode the replay that it hands back, whatever the number: slice after slice over the bytes is slice after slice
+  pub slice-carries : Bytes replay → sized replay answer ≡ true → replayIn (call .replay) ≡ sliceOf (replayIn replay) log asked .replay
+  slice-carries b h = go (leb (sliceOf (replayIn replay) log asked .number) 34) refl
+    where
+      go : (t : Bool) → leb (sliceOf (replayIn replay) log asked .number) 34 ≡ t → replayIn (call .replay) ≡ sliceOf (replayIn replay) log asked .replay
+      go true e =
+          ap replayIn (written h e)
+          ∙ decode-encode (sliceOf (replayIn replay) log asked .replay) (held-slice (replayIn replay) log asked (held-in replay b (replay-sized replay answer h))) .1
+      go false e = ap replayIn (not-written h e) ∙ sym (kept-slice (replayIn replay) log asked e)

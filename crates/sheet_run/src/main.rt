@@ -251,8 +251,8 @@ fn print_rows() {
     read_row(b"p3", 1);
     ask_row(b"p4", 200, as_p1(0, 22, 23), &zeros, &zeros);
     ask_row(b"p5", 200, as_p1(0, 22, 24), &zeros, &zeros);
-    ask_row(b"p6", 200, as_p1(0, 17, 2), &zeros, &zeros[..0]);
-    ask_row(b"p7", 200, as_p1(0, 18, 2), &zeros, &zeros[..0]);
+    ask_row(b"p6", 200, as_p1(0, 17, 2), &zeros, b"");
+    ask_row(b"p7", 200, as_p1(0, 18, 2), &zeros, b"");
     ask_row(b"p8", 145, as_p1(0, 22, 2), &zeros, &zeros);
     ask_row(b"p9", 144, as_p1(0, 22, 2), &zeros, &zeros);
     ask_row(b"p10", 200, as_p1(PE_COFF, 22, 2), fox, &zeros);
@@ -340,7 +340,15 @@ fn print_story() {
     tell_story(&mut old, &mut agile, &mut table);
 }
 
-// An opening with the first n bytes of the agile buffer and the first k of the table's.
+fn open_and_print(name: &[u8], bitmap: u32, old: &mut [u8], agile: &mut [u8], table: &mut [u8])
+    requires { ⌜ (length (now old) ≤ 300) × (length (now agile) ≤ 300) × (length (now table) ≤ 300) ⌝ }
+{
+    let a = service::open(bitmap, old, agile, table);
+    print_text(name);
+    print_answer(a, old, agile, table);
+}
+
+// The agile buffer is the first n bytes, the table's the first k.
 fn open_in(
     name: &[u8],
     bitmap: u32,
@@ -352,9 +360,7 @@ fn open_in(
 )
     requires { ⌜ (n ≤ length (now agile)) × (k ≤ length (now table)) × (length (now old) ≤ 300) × (length (now agile) ≤ 300) × (length (now table) ≤ 300) ⌝ }
 {
-    let a = service::open(bitmap, old, &mut agile[..n], &mut table[..k]);
-    print_text(name);
-    print_answer(a, old, &agile[..n], &table[..k]);
+    open_and_print(name, bitmap, old, &mut agile[..n], &mut table[..k]);
 }
 
 fn open_row(name: &[u8], bitmap: u32, n: usize, k: usize)

@@ -312,29 +312,44 @@ fn ask_fox(
     ask(s, as_fox(flags), &FOX, &EVENT, old, agile, table)
 }
 
-// The agile log takes two entries and is closed at the third; the others go on. The 11 stays.
+// Every store takes two entries.
 fn fill(s: State, old: &mut [u8], agile: &mut [u8], table: &mut [u8]) -> State
     requires { ⌜ (length (now old) ≤ 300) × (length (now agile) ≤ 300) × (length (now table) ≤ 300) ⌝ }
 {
     let a = ask_fox(b"story-fox-1", s, 0, old, agile, table);
-    let b = ask_fox(b"story-fox-2", a, 0, old, agile, table);
-    let c = ask_fox(b"story-fox-3", b, 0, old, agile, table);
-    ask_fox(b"story-extend", c, EXTEND_ONLY, old, agile, table)
+    ask_fox(b"story-fox-2", a, 0, old, agile, table)
 }
 
-// A reading arms the table before the agile log is filled, and both logs are read behind it.
-fn tell_story(old: &mut [u8], agile: &mut [u8], table: &mut [u8])
+// The third entry closes the agile log, and the others go on; then an extend-only request answers 11 again.
+fn overfill(s: State, old: &mut [u8], agile: &mut [u8], table: &mut [u8]) -> State
     requires { ⌜ (length (now old) ≤ 300) × (length (now agile) ≤ 300) × (length (now table) ≤ 300) ⌝ }
 {
+    let a = ask_fox(b"story-fox-3", s, 0, old, agile, table);
+    ask_fox(b"story-extend", a, EXTEND_ONLY, old, agile, table)
+}
+
+fn read_both(s: State, old: &[u8], agile: &[u8], table: &[u8]) {
+    print_text(b"story-end-1");
+    let a = read(s, 1, old, agile, table);
+    print_text(b"story-end-2");
+    read(a, 2, old, agile, table);
+}
+
+// Opens, and arms the table by a reading.
+fn open_armed(old: &mut [u8], agile: &mut [u8], table: &mut [u8]) -> State {
     let o = service::open(3, old, agile, table);
     let s = o.state;
     print_text(b"story-read-2");
-    let a = read(s, 2, old, agile, table);
-    let b = fill(a, old, agile, table);
-    print_text(b"story-end-1");
-    let c = read(b, 1, old, agile, table);
-    print_text(b"story-end-2");
-    read(c, 2, old, agile, table);
+    read(s, 2, old, agile, table)
+}
+
+fn tell_story(old: &mut [u8], agile: &mut [u8], table: &mut [u8])
+    requires { ⌜ (length (now old) ≤ 300) × (length (now agile) ≤ 300) × (length (now table) ≤ 300) ⌝ }
+{
+    let s = open_armed(old, agile, table);
+    let a = fill(s, old, agile, table);
+    let b = overfill(a, old, agile, table);
+    read_both(b, old, agile, table);
 }
 
 fn print_story() {

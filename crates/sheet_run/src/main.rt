@@ -1,5 +1,8 @@
 // Prints what every row of document 01's sheet leaves, what 001's request leaves, a short story and three refused openings. second/ gives the
 // same list from the papers.
+// A request's or an opening's line: its name, the status, the used lengths of the 1.2 log, the agile log and the table, whether the two logs are
+// closed, whether the table is armed and an 11 was given, the bytes of the three buffers, and the SHA-256 digest of all registers. A reading's
+// line: its name, the status, the used length, the last entry, whether the log is closed, and whether the table is armed.
 use libc::STDOUT_FILENO;
 use service::Answer;
 use service::Reading;
@@ -17,6 +20,11 @@ ghost use Rattle.sheet_run.specs.Request.{sizesOf, requestOf};
 const EXTEND_ONLY: u64 = 1;
 
 const PE_COFF: u64 = 16;
+
+// 001's request: the data, and the event.
+const FOX: [u8; 43] = *b"The quick brown fox jumps over the lazy dog";
+
+const EVENT: [u8; 18] = *b"TCG2 Protocol Test";
 
 // A request's flags and the fields of its lent bytes. Its event and its data are lent beside it.
 struct Asked {
@@ -79,6 +87,7 @@ fn print_number(n: u64) {
     io::print_decimal(STDOUT_FILENO, n);
 }
 
+// A space, and the digits of some bytes: no buffer here is longer than 300.
 fn print_hex(bytes: &[u8])
     requires { ⌜ length (now bytes) ≤ 300 ⌝ }
 {
@@ -145,6 +154,7 @@ fn print_answer(a: Answer, old: &[u8], agile: &[u8], table: &[u8])
     print_text(b"\n");
 }
 
+// The rest of a reading's line.
 fn print_reading(r: Reading) {
     let status = r.status;
     let last = r.last;
@@ -157,6 +167,7 @@ fn print_reading(r: Reading) {
     print_text(b"\n");
 }
 
+// Asks, and prints the rest of the line.
 fn ask(
     s: State,
     a: Asked,
@@ -176,6 +187,7 @@ fn ask(
     t
 }
 
+// Reads a log, and prints the rest of the line.
 fn read(s: State, format: u32, old: &[u8], agile: &[u8], table: &[u8]) -> State {
     let r = service::read_log(s, format, old, agile, table);
     print_reading(r);
@@ -245,7 +257,7 @@ fn read_row(name: &[u8], format: u32) {
 // P1 to P12.
 fn print_rows() {
     let zeros = [0u8; 4];
-    let fox = b"The quick brown fox jumps over the lazy dog";
+    let fox = FOX;
     ask_row(b"p1", 200, as_p1(0, 22, 2), &zeros, &zeros);
     read_row(b"p2", 2);
     read_row(b"p3", 1);
@@ -255,8 +267,8 @@ fn print_rows() {
     ask_row(b"p7", 200, as_p1(0, 18, 2), &zeros, b"");
     ask_row(b"p8", 145, as_p1(0, 22, 2), &zeros, &zeros);
     ask_row(b"p9", 144, as_p1(0, 22, 2), &zeros, &zeros);
-    ask_row(b"p10", 200, as_p1(PE_COFF, 22, 2), fox, &zeros);
-    ask_row(b"p11", 200, as_p1(PE_COFF, 22, 24), fox, &zeros);
+    ask_row(b"p10", 200, as_p1(PE_COFF, 22, 2), &fox, &zeros);
+    ask_row(b"p11", 200, as_p1(PE_COFF, 22, 24), &fox, &zeros);
     read_row(b"p12", 3);
 }
 
@@ -269,8 +281,8 @@ fn fox_row(name: &[u8], bitmap: u32, flags: u64) {
         name,
         bitmap,
         as_fox(flags),
-        b"The quick brown fox jumps over the lazy dog",
-        b"TCG2 Protocol Test",
+        &FOX,
+        &EVENT,
         &mut old,
         &mut agile,
         &mut table,
@@ -297,40 +309,47 @@ fn ask_fox(
     requires { ⌜ (length (now old) ≤ 300) × (length (now agile) ≤ 300) × (length (now table) ≤ 300) ⌝ }
 {
     print_text(name);
-    ask(
-        s,
-        as_fox(flags),
-        b"The quick brown fox jumps over the lazy dog",
-        b"TCG2 Protocol Test",
-        old,
-        agile,
-        table,
-    )
+    ask(s, as_fox(flags), &FOX, &EVENT, old, agile, table)
 }
 
-// The agile log takes two entries and is closed at the third; the others go on. The 11 stays.
+// Every store takes two entries.
 fn fill(s: State, old: &mut [u8], agile: &mut [u8], table: &mut [u8]) -> State
     requires { ⌜ (length (now old) ≤ 300) × (length (now agile) ≤ 300) × (length (now table) ≤ 300) ⌝ }
 {
     let a = ask_fox(b"story-fox-1", s, 0, old, agile, table);
-    let b = ask_fox(b"story-fox-2", a, 0, old, agile, table);
-    let c = ask_fox(b"story-fox-3", b, 0, old, agile, table);
-    ask_fox(b"story-extend", c, EXTEND_ONLY, old, agile, table)
+    ask_fox(b"story-fox-2", a, 0, old, agile, table)
 }
 
-// A reading arms the table before the agile log is filled, and both logs are read behind it.
-fn tell_story(old: &mut [u8], agile: &mut [u8], table: &mut [u8])
+// The third entry closes the agile log, and the others go on; then an extend-only request answers 11 again.
+fn overfill(s: State, old: &mut [u8], agile: &mut [u8], table: &mut [u8]) -> State
     requires { ⌜ (length (now old) ≤ 300) × (length (now agile) ≤ 300) × (length (now table) ≤ 300) ⌝ }
 {
+    let a = ask_fox(b"story-fox-3", s, 0, old, agile, table);
+    ask_fox(b"story-extend", a, EXTEND_ONLY, old, agile, table)
+}
+
+fn read_both(s: State, old: &[u8], agile: &[u8], table: &[u8]) {
+    print_text(b"story-end-1");
+    let a = read(s, 1, old, agile, table);
+    print_text(b"story-end-2");
+    read(a, 2, old, agile, table);
+}
+
+// Opens, and arms the table by a reading.
+fn open_armed(old: &mut [u8], agile: &mut [u8], table: &mut [u8]) -> State {
     let o = service::open(3, old, agile, table);
     let s = o.state;
     print_text(b"story-read-2");
-    let a = read(s, 2, old, agile, table);
-    let b = fill(a, old, agile, table);
-    print_text(b"story-end-1");
-    let c = read(b, 1, old, agile, table);
-    print_text(b"story-end-2");
-    read(c, 2, old, agile, table);
+    read(s, 2, old, agile, table)
+}
+
+fn tell_story(old: &mut [u8], agile: &mut [u8], table: &mut [u8])
+    requires { ⌜ (length (now old) ≤ 300) × (length (now agile) ≤ 300) × (length (now table) ≤ 300) ⌝ }
+{
+    let s = open_armed(old, agile, table);
+    let a = fill(s, old, agile, table);
+    let b = overfill(a, old, agile, table);
+    read_both(b, old, agile, table);
 }
 
 fn print_story() {

@@ -17,11 +17,11 @@ put-slice-requires c κs = rw (began-fine (c .before .before .before .before .be
 enum-known-stop : tie.Need-enum-known-stop
 enum-known-stop c = search needs
 
-number-of-requires : tie.Need-number-of-requires
-number-of-requires c κs = search needs
+refusal-number-requires : tie.Need-refusal-number-requires
+refusal-number-requires c κs = search needs
 
 put-refused-requires : tie.Need-put-refused-requires
-put-refused-requires c κs = rw (began-refused (c .before .before .before .before .before .before .before .before .args .b) (now (c .before .before .before .before .before .before .before .before .args .log)) _ _ (c .before .before .before .stop .given .1) (c .number-of .ensures)) at (c .before .before .before .before .before .before .before .before .pre)
+put-refused-requires c κs = rw (began-refused (c .before .before .before .before .before .before .before .before .args .b) (now (c .before .before .before .before .before .before .before .before .args .log)) _ _ (c .before .before .before .stop .given .1) (c .refusal-number .ensures)) at (c .before .before .before .before .before .before .before .before .pre)
 
 same-length : tie.Need-same-length
 same-length c = search needs
@@ -33,7 +33,7 @@ same-length-2 : tie.Need-same-length-2
 same-length-2 c = search needs
 
 returns-2 : tie.Need-returns-2
-returns-2 c = rw (began-refused (c .before .before .before .before .before .before .before .before .before .before .before .args .b) (now (c .before .before .before .before .before .before .before .before .before .before .before .args .log)) _ _ (c .before .before .before .before .before .before .stop .given .1) (c .before .before .before .number-of .ensures)) (c .before .before .put-refused .ensures)
+returns-2 c = rw (began-refused (c .before .before .before .before .before .before .before .before .before .before .before .args .b) (now (c .before .before .before .before .before .before .before .before .before .before .before .args .log)) _ _ (c .before .before .before .before .before .before .stop .given .1) (c .before .before .before .refusal-number .ensures)) (c .before .before .put-refused .ensures)
 
 pub put-begun-spec : {M : Type 1} → statement M
 put-begun-spec =
@@ -43,7 +43,7 @@ put-begun-spec =
     slice-requires
     put-slice-requires
     enum-known-stop
-    number-of-requires
+    refusal-number-requires
     put-refused-requires
     same-length
     returns

@@ -2,7 +2,7 @@
 
 What is called is read from the sources and not from crates.txt, which may list more than is used. A crate without a function holds
 theorems; its arrows, dashed, go to what its definitions and proofs cite. An arrow that a longer way implies is left out, as tred does:
-nearly every crate calls wire and bank, and the picture would be all arrows. Crates stand on floors: wire at the bottom, each other crate one
+most crates call wire, many bank, and the picture would be all arrows. Crates stand on floors: wire at the bottom, each other crate one
 floor above the highest that it uses."""
 import glob
 import re

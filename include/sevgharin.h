@@ -1,9 +1,10 @@
 /*
  * Sevgharin: measured boot of the washer's control panel.
  *
- * Link target/staticlib/libpanel.a (x86-64). It needs memcpy and memset, and
- * nothing else; it allocates nothing, keeps nothing between calls and holds no
- * pointer after a call. docs/LAYOUT.md has the byte layouts, and
+ * Link libsevgharin.a (x86-64), which ./archive makes. It needs no other
+ * symbol; it allocates nothing, keeps nothing between calls and holds no pointer
+ * after a call. It leaves the bytes below the stack pointer alone, so an
+ * interrupt may be taken on its stack. docs/LAYOUT.md has the byte layouts, and
  * docs/INTEGRATION.md the order of calls, the stack that each needs and what to
  * keep.
  *
@@ -24,6 +25,18 @@
 
 #include <stddef.h>
 #include <stdint.h>
+
+/*
+ * The calls follow the System V convention, whatever convention the caller is
+ * compiled with: EFIAPI and -mabi=ms are Microsoft's.
+ */
+#if !defined(__x86_64__) && !defined(_M_X64)
+#define SEVGHARIN_CALL
+#elif defined(__GNUC__)
+#define SEVGHARIN_CALL __attribute__((sysv_abi))
+#else
+#error "sevgharin.h: this compiler can't call the System V convention on x86-64; gcc and clang can"
+#endif
 
 #ifdef __cplusplus
 extern "C" {
@@ -89,6 +102,15 @@ extern "C" {
 #define SEVGHARIN_READING_SIZE 18
 #define SEVGHARIN_REPLAY_SIZE 1264
 #define SEVGHARIN_SLICE_SIZE 25
+
+/*
+ * The interface's number, and the sizes of a state and of a replay. Hold it
+ * against sevgharin_version() before the first opening: where they differ, the
+ * archive isn't this header's.
+ */
+#define SEVGHARIN_INTERFACE 1
+#define SEVGHARIN_VERSION \
+    ((UINT64_C(1) << 32) * SEVGHARIN_INTERFACE + (UINT64_C(1) << 16) * SEVGHARIN_STATE_SIZE + SEVGHARIN_REPLAY_SIZE)
 
 /* What opening writes to the agile log (with both banks, with one) and to the table. */
 #define SEVGHARIN_HEADER_SIZE_BOTH 69
@@ -159,8 +181,9 @@ extern "C" {
  * the stores are as lent and the state is all zero, which every request and
  * reading refuses.
  */
-uint64_t sevgharin_open(uint8_t *state, size_t state_size, uint32_t bitmap, uint8_t *log12, size_t log12_size,
-                        uint8_t *agile, size_t agile_size, uint8_t *table, size_t table_size);
+uint64_t SEVGHARIN_CALL sevgharin_open(uint8_t *state, size_t state_size, uint32_t bitmap,
+                                       uint8_t *log12, size_t log12_size, uint8_t *agile, size_t agile_size,
+                                       uint8_t *table, size_t table_size);
 
 /*
  * HashLogExtendEvent: hashes data in each active bank, extends the request's
@@ -177,9 +200,10 @@ uint64_t sevgharin_open(uint8_t *state, size_t state_size, uint32_t bitmap, uint
  * 18 or above request_size, event over 4,096 bytes, register above 23; 3: the
  * PE/COFF flag. On 7, 2 and 3, in this order, no byte changes.
  */
-uint64_t sevgharin_request(uint8_t *state, size_t state_size, uint64_t flags, const uint8_t *request, size_t request_size,
-                           const uint8_t *data, size_t data_size, uint8_t *log12, size_t log12_size, uint8_t *agile,
-                           size_t agile_size, uint8_t *table, size_t table_size);
+uint64_t SEVGHARIN_CALL sevgharin_request(uint8_t *state, size_t state_size, uint64_t flags,
+                                          const uint8_t *request, size_t request_size,
+                                          const uint8_t *data, size_t data_size, uint8_t *log12, size_t log12_size,
+                                          uint8_t *agile, size_t agile_size, uint8_t *table, size_t table_size);
 
 /*
  * GetEventLog: tells a log's used length, whether it is closed, and where its
@@ -191,9 +215,11 @@ uint64_t sevgharin_request(uint8_t *state, size_t state_size, uint64_t flags, co
  * neither 1 nor 2, or it is 1 while SHA-1 isn't active. On 7 and 2, in this
  * order, the state stays, and an answer record of its size is all zero.
  */
-uint64_t sevgharin_read_log(uint8_t *state, size_t state_size, uint32_t format, const uint8_t *log12, size_t log12_size,
-                            const uint8_t *agile, size_t agile_size, const uint8_t *table, size_t table_size,
-                            uint8_t *answer, size_t answer_size);
+uint64_t SEVGHARIN_CALL sevgharin_read_log(uint8_t *state, size_t state_size, uint32_t format,
+                                           const uint8_t *log12, size_t log12_size,
+                                           const uint8_t *agile, size_t agile_size,
+                                           const uint8_t *table, size_t table_size,
+                                           uint8_t *answer, size_t answer_size);
 
 /* ---- replay */
 
@@ -208,7 +234,8 @@ uint64_t sevgharin_read_log(uint8_t *state, size_t state_size, uint32_t format, 
  * changed; 38, 36, 37, in this order: the replay is all zero, which every
  * slice refuses.
  */
-uint64_t sevgharin_begin(uint8_t *replay, size_t replay_size, uint32_t format, const uint8_t *log, size_t log_size);
+uint64_t SEVGHARIN_CALL sevgharin_begin(uint8_t *replay, size_t replay_size, uint32_t format,
+                                        const uint8_t *log, size_t log_size);
 
 /*
  * Takes at most so many entries as asked, extends the replay's registers by
@@ -222,17 +249,26 @@ uint64_t sevgharin_begin(uint8_t *replay, size_t replay_size, uint32_t format, c
  * where a buffer isn't SEVGHARIN_REPLAY_SIZE or SEVGHARIN_SLICE_SIZE bytes, and
  * then, before all else, nothing is changed.
  */
-uint64_t sevgharin_slice(uint8_t *replay, size_t replay_size, const uint8_t *log, size_t log_size, uint64_t asked,
-                         uint8_t *answer, size_t answer_size);
+uint64_t SEVGHARIN_CALL sevgharin_slice(uint8_t *replay, size_t replay_size, const uint8_t *log, size_t log_size,
+                                        uint64_t asked, uint8_t *answer, size_t answer_size);
 
 /* ---- digests, and one step of a register; 0, or 2 where a digest or a register has another length, and it stays */
 
-uint64_t sevgharin_sha1(const uint8_t *message, size_t message_size, uint8_t *digest, size_t digest_size);
-uint64_t sevgharin_sha256(const uint8_t *message, size_t message_size, uint8_t *digest, size_t digest_size);
+uint64_t SEVGHARIN_CALL sevgharin_sha1(const uint8_t *message, size_t message_size,
+                                       uint8_t *digest, size_t digest_size);
+uint64_t SEVGHARIN_CALL sevgharin_sha256(const uint8_t *message, size_t message_size,
+                                         uint8_t *digest, size_t digest_size);
 
 /* Sets the register to the hash of its value and the digest. */
-uint64_t sevgharin_sha1_extend(uint8_t *reg, size_t reg_size, const uint8_t *digest, size_t digest_size);
-uint64_t sevgharin_sha256_extend(uint8_t *reg, size_t reg_size, const uint8_t *digest, size_t digest_size);
+uint64_t SEVGHARIN_CALL sevgharin_sha1_extend(uint8_t *reg, size_t reg_size,
+                                              const uint8_t *digest, size_t digest_size);
+uint64_t SEVGHARIN_CALL sevgharin_sha256_extend(uint8_t *reg, size_t reg_size,
+                                                const uint8_t *digest, size_t digest_size);
+
+/* ---- the archive itself */
+
+/* SEVGHARIN_VERSION of the header that the archive goes with. */
+uint64_t SEVGHARIN_CALL sevgharin_version(void);
 
 #ifdef __cplusplus
 }

@@ -13,6 +13,7 @@ ghost use Rattle.service.specs.Status.{number};
 ghost use Rattle.layout.specs.Layout.{stateLength};
 ghost use Rattle.panel.specs.Digests.{onWire, outcome, digested, extended};
 ghost use Rattle.placed.specs.Placed.{replayLength};
+ghost use Rattle.version.specs.Version.{version};
 ghost use Rattle.panel.specs.Calls.{callOutcome, keptIf, openCall, requestCall, readCallOutcome, filled, nothing, readCall};
 ghost use Rattle.panel.specs.Replays.{beginCallOutcome, beginCall, carriedIf, sliceCallOutcome, sliceCall};
 
@@ -267,4 +268,12 @@ pub extern "C" fn sevgharin_slice(
     placed::put_answer(answer, r.taken, n, placed::offset_of(stop), r.done);
     carry(replay, n <= 34, p);
     n
+}
+
+// The interface's number and the sizes of a state and of a replay, for a caller to hold against its header's.
+#[no_mangle]
+pub extern "C" fn sevgharin_version() -> u64
+    ensures { λ r. ⌜ r ≡ version ⌝ }
+{
+    version::version()
 }

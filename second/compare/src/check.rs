@@ -84,6 +84,16 @@ impl Checks {
         self.count(name, Answer { status, lent }, expected(before, wanted));
     }
 
+    /// A call that is lent nothing.
+    pub fn same(&mut self, name: &str, answer: u64, wanted: u64) {
+        if answer == wanted {
+            self.passed += 1;
+        } else {
+            self.failed += 1;
+            println!("{name}: the library answers {answer:#x}, wanted is {wanted:#x}");
+        }
+    }
+
     fn count(&mut self, name: &str, mut answer: Answer, mut expected: Answer) {
         if answer == expected {
             self.passed += 1;

@@ -45,6 +45,7 @@ fn main() -> ExitCode {
         return ExitCode::from(2);
     };
     let mut checks = Checks::new(seed);
+    checks.same("version", linked::version(), model::calls::version());
     for hash in &HASHES {
         println!("{}: {count} random messages, seed {seed}", hash.name);
         patterned_messages(&mut checks, hash);

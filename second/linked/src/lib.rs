@@ -7,6 +7,8 @@ pub const SUCCESS: u64 = 0;
 pub const INVALID_PARAMETER: u64 = (1 << 63) + 2;
 
 extern "C" {
+    fn sevgharin_version() -> u64;
+
     fn sevgharin_sha1(data: *const u8, data_len: usize, digest: *mut u8, digest_len: usize) -> u64;
 
     fn sevgharin_sha256(
@@ -130,6 +132,12 @@ pub fn sha256_extend(register: &mut [u8], digest: &[u8]) -> u64 {
             digest.len(),
         )
     }
+}
+
+/// What the archive says of itself: its interface, and the sizes of a state and
+/// of a replay.
+pub fn version() -> u64 {
+    unsafe { sevgharin_version() }
 }
 
 /// Opens with the banks of `bitmap`: writes the state, which must be 1,307

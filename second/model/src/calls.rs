@@ -36,6 +36,14 @@ pub const MODEL: Calls = Calls {
 /// numbers have no error bit.
 const WRONG_LENGTH: u64 = 35;
 
+/// The number of the set of calls.
+const INTERFACE: u64 = 1;
+
+/// The interface, and the sizes of a state and of a replay in sixteen bits each.
+pub fn version() -> u64 {
+    INTERFACE << 32 | (STATE_BYTES as u64) << 16 | REPLAY_BYTES as u64
+}
+
 /// The state handed out is written, the blank one of a refused opening too.
 pub fn open(
     state: &mut [u8],

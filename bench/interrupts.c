@@ -33,11 +33,14 @@ HIDDEN UINT64 steps, left, every, overwritten;
 /* Its registers are kept here: on the stack they would stand among the bytes that it overwrites. */
 HIDDEN UINT64 saved_rax, saved_rcx, saved_rdi;
 
+/* What is written over the bytes is this address: a call that keeps a pointer there then goes astray, and mostly comes back. */
+HIDDEN UINT8 decoy[4096];
+
 /*
  * The library's code lies between two symbols that bench/interrupts sets. The
- * processor has aligned the stack pointer and pushed 40 bytes: rip, cs, flags,
- * rsp, ss. What lies below them and above them is overwritten, down to 128 bytes
- * below the interrupted rsp.
+ * processor has aligned the stack pointer, a multiple of 8, to 16, and pushed 40
+ * bytes: rip, cs, flags, rsp, ss. What lies below them, down to 128 bytes below
+ * the interrupted rsp, and between them and that rsp is overwritten.
  */
 __asm__(".text\n"
         ".hidden library_start, library_end\n"
@@ -60,16 +63,18 @@ __asm__(".text\n"
         "    movq %rcx, left(%rip)\n"
         "    incq overwritten(%rip)\n"
         "    cld\n"
-        "    movb $0xa5, %al\n"
+        "    leaq decoy(%rip), %rax\n"
         "    movq 24(%rsp), %rdi\n"
         "    subq $128, %rdi\n"
         "    movq %rsp, %rcx\n"
         "    subq %rdi, %rcx\n"
-        "    rep stosb\n"
+        "    shrq $3, %rcx\n"
+        "    rep stosq\n"
         "    leaq 40(%rsp), %rdi\n"
         "    movq 24(%rsp), %rcx\n"
         "    subq %rdi, %rcx\n"
-        "    rep stosb\n"
+        "    shrq $3, %rcx\n"
+        "    rep stosq\n"
         "1:  movq saved_rax(%rip), %rax\n"
         "    movq saved_rcx(%rip), %rcx\n"
         "    movq saved_rdi(%rip), %rdi\n"
@@ -93,7 +98,7 @@ struct table_pointer {
 static struct gate gates[VECTORS];
 static void *back[5];
 
-/* A fault while a call is interrupted: what was overwritten was an address. The call is given up. */
+/* A fault while a call is interrupted: it worked on what was overwritten. The call is given up. */
 static void on_fault(void)
 {
     __builtin_longjmp(back, 1);

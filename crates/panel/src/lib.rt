@@ -1,7 +1,6 @@
 // The calls that the washer's firmware links. A slice is a pointer and a length in C.
 use replay::Replay;
 use service::State;
-use service::Status;
 use store::Last;
 use store::Store;
 ghost use mathlib.Core.Path.{_≡_};
@@ -9,7 +8,6 @@ ghost use Prim.Native.Nat.{_≤_};
 ghost use lib.ListN.{length};
 ghost use Rattle.sha1.specs.Sha1.{sha1};
 ghost use Rattle.sha256.specs.Sha256.{sha256};
-ghost use Rattle.service.specs.Status.{number};
 ghost use Rattle.layout.specs.Layout.{stateLength};
 ghost use Rattle.panel.specs.Digests.{onWire, outcome, digested, extended};
 ghost use Rattle.placed.specs.Placed.{replayLength};
@@ -74,20 +72,6 @@ pub extern "C" fn sevgharin_sha256_extend(register: &mut [u8], digest: &[u8]) ->
     INVALID
 }
 
-// 01, When the panel answers no: a status's number.
-fn number_of(status: Status) -> u64
-    ensures { λ r. ⌜ r ≡ number status ⌝ }
-{
-    match status {
-        Status::Success => 0,
-        Status::InvalidParameter => 2,
-        Status::Unsupported => 3,
-        Status::TooSmall => 5,
-        Status::DeviceError => 7,
-        Status::VolumeFull => 11,
-    }
-}
-
 // 01: "An error status on the wire is 2^63 + the number"; success is 0.
 fn on_wire(n: u64) -> u64
     requires { ⌜ n ≤ 11 ⌝ }
@@ -127,7 +111,7 @@ pub extern "C" fn sevgharin_open(
     let s = r.state;
     let status = r.status;
     layout::put_state(state, s);
-    on_wire(number_of(status))
+    on_wire(service::number_of(status))
 }
 
 // HashLogExtendEvent on the state that lies in state.
@@ -157,7 +141,7 @@ pub extern "C" fn sevgharin_request(
     );
     let s = r.state;
     let status = r.status;
-    let n = number_of(status);
+    let n = service::number_of(status);
     keep(state, (n == 0) | (n == 11), s);
     on_wire(n)
 }
@@ -205,7 +189,7 @@ pub extern "C" fn sevgharin_read_log(
     let s = r.state;
     let status = r.status;
     let last = r.last;
-    let n = number_of(status);
+    let n = service::number_of(status);
     if !((n == 7) | (answer.len() == layout::STORE)) {
         return INVALID;
     }

@@ -22,7 +22,7 @@ use Rattle.service.specs.Reading.{readOutcome, readingOf}
 use Rattle.request.specs.Request.{requestOf}
 use Rattle.layout.specs.Layout.{storeBytes, storeLength, stateBytes, stateLength, stateIn, marked, encodes}
 use Rattle.layout.proofs.Laws.{length-store}
-use Rattle.panel.specs.Digests.{onWire}
+use Rattle.digests.specs.Digests.{onWire}
 use Rattle.wire.proofs.Tests.{both}
 use Rattle.panel.specs.Calls.{callOutcome, asLent, keptIf, openCall, requestCall, readCallOutcome, filled, nothing, readCall}
 

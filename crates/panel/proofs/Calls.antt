@@ -13,7 +13,7 @@ use Rattle.service.proofs.Readings.{asksOld, exactly-7 as read-exactly-7, uncha
 use Rattle.request.specs.Request.{wellFormed, peCoff, requestOf}
 use Rattle.request.proofs.Requests.{elevens, exactly-7, unchanged-7, exactly-2, unchanged-2, exactly-3, unchanged-3, exactly-11, exactly-0}
 use Rattle.layout.specs.Layout.{storeLength, stateIn, encodes}
-use Rattle.panel.specs.Digests.{onWire}
+use Rattle.digests.specs.Digests.{onWire}
 use Rattle.panel.specs.Calls.{CallOutcome, callOutcome, asLent, keptIf, requestCall, ReadCallOutcome, readCallOutcome, filled, nothing, readRefused, readCall}
 
 -- ---- no second outcome

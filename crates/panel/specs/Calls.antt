@@ -12,7 +12,7 @@ use Rattle.service.specs.Opening.{openingOf}
 use Rattle.service.specs.Reading.{ReadOutcome, readingOf}
 use Rattle.request.specs.Request.{requestOf}
 use Rattle.layout.specs.Layout.{storeBytes, storeLength, stateBytes, stateLength, stateIn, encodes}
-use Rattle.panel.specs.Digests.{onWire}
+use Rattle.digests.specs.Digests.{onWire}
 
 -- ---- openings and requests
 

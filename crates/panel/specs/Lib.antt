@@ -1,4 +1,2 @@
-pub mod Digests
 pub mod Calls
 pub mod Replays
-pub mod Examples

@@ -9,14 +9,12 @@ ghost use lib.ListN.{length};
 ghost use Rattle.sha1.specs.Sha1.{sha1};
 ghost use Rattle.sha256.specs.Sha256.{sha256};
 ghost use Rattle.layout.specs.Layout.{stateLength};
-ghost use Rattle.panel.specs.Digests.{onWire, outcome, digested, extended};
+ghost use Rattle.digests.specs.Digests.{onWire, outcome, digested, extended};
 ghost use Rattle.placed.specs.Placed.{replayLength};
 ghost use Rattle.panel.specs.Calls.{callOutcome, keptIf, openCall, requestCall, readCallOutcome, filled, nothing, readCall};
 ghost use Rattle.panel.specs.Replays.{beginCallOutcome, beginCall, carriedIf, sliceCallOutcome, sliceCall};
 
-// 01, When the panel answers no: invalid parameter and device error, on the wire.
-const INVALID: u64 = 0x8000_0000_0000_0002;
-
+// 01, When the panel answers no: device error, on the wire.
 const DEVICE: u64 = 0x8000_0000_0000_0007;
 
 // 01, Replay: a place beyond the log, or no replay at all. Replay's numbers stand as they are.
@@ -27,12 +25,7 @@ const PLACE_BEYOND: u64 = 35;
 pub extern "C" fn sevgharin_sha1(message: &[u8], digest: &mut [u8]) -> u64
     ensures { λ r. ⌜ outcome r (now (digest .exit)) ≡ digested sha1 20 (now (message .entry)) (now (digest .entry)) ⌝ }
 {
-    if digest.len() == 20 {
-        let h = sha1::digest(message);
-        wire::put_bytes(digest, 0, &h);
-        return 0;
-    }
-    INVALID
+    digests::sha1(message, digest)
 }
 
 // Fills digest, which must be 32 bytes, with the SHA-256 digest of message.
@@ -40,12 +33,7 @@ pub extern "C" fn sevgharin_sha1(message: &[u8], digest: &mut [u8]) -> u64
 pub extern "C" fn sevgharin_sha256(message: &[u8], digest: &mut [u8]) -> u64
     ensures { λ r. ⌜ outcome r (now (digest .exit)) ≡ digested sha256 32 (now (message .entry)) (now (digest .entry)) ⌝ }
 {
-    if digest.len() == 32 {
-        let h = sha256::digest(message);
-        wire::put_bytes(digest, 0, &h);
-        return 0;
-    }
-    INVALID
+    digests::sha256(message, digest)
 }
 
 // Extends register with digest, both 20 bytes, in the SHA-1 bank.
@@ -53,11 +41,7 @@ pub extern "C" fn sevgharin_sha256(message: &[u8], digest: &mut [u8]) -> u64
 pub extern "C" fn sevgharin_sha1_extend(register: &mut [u8], digest: &[u8]) -> u64
     ensures { λ r. ⌜ outcome r (now (register .exit)) ≡ extended sha1 20 (now (register .entry)) (now (digest .entry)) ⌝ }
 {
-    if (register.len() == 20) & (digest.len() == 20) {
-        sha1::extend(register, digest);
-        return 0;
-    }
-    INVALID
+    digests::sha1_extend(register, digest)
 }
 
 // Extends register with digest, both 32 bytes, in the SHA-256 bank.
@@ -65,11 +49,7 @@ pub extern "C" fn sevgharin_sha1_extend(register: &mut [u8], digest: &[u8]) -> u
 pub extern "C" fn sevgharin_sha256_extend(register: &mut [u8], digest: &[u8]) -> u64
     ensures { λ r. ⌜ outcome r (now (register .exit)) ≡ extended sha256 32 (now (register .entry)) (now (digest .entry)) ⌝ }
 {
-    if (register.len() == 32) & (digest.len() == 32) {
-        sha256::extend(register, digest);
-        return 0;
-    }
-    INVALID
+    digests::sha256_extend(register, digest)
 }
 
 // 01: "An error status on the wire is 2^63 + the number"; success is 0.
@@ -105,7 +85,7 @@ pub extern "C" fn sevgharin_open(
     ensures { λ r. ⌜ callOutcome r (now (state .exit)) (now (old .exit)) (now (agile .exit)) (now (table .exit)) ≡ openCall (now (state .entry)) bitmap (now (old .entry)) (now (agile .entry)) (now (table .entry)) ⌝ }
 {
     if state.len() != layout::STATE {
-        return INVALID;
+        return digests::INVALID;
     }
     let r = service::open(bitmap, old, agile, table);
     let s = r.state;
@@ -191,7 +171,7 @@ pub extern "C" fn sevgharin_read_log(
     let last = r.last;
     let n = service::number_of(status);
     if !((n == 7) | (answer.len() == layout::STORE)) {
-        return INVALID;
+        return digests::INVALID;
     }
     show(
         answer,

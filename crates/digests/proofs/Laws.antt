@@ -1,4 +1,4 @@
--- What the exported digests' answers come to, over the hash and its digest's length. Assumes nothing.
+-- What the answers come to, over the hash and its digest's length. Assumes nothing.
 use mathlib.Core.Bool.{true, false, _&&_}
 use mathlib.Core.List.{List, _++_}
 use mathlib.Core.Path.{_≡_}
@@ -7,7 +7,7 @@ use borrow.Author.Tests.{eqb-true, eq-eqb, ne-eqb}
 use lib.Dec.{eqb}
 use lib.ListN.{length}
 use Rattle.wire.proofs.Tests.{both}
-use Rattle.panel.specs.Digests.{onWire, outcome, digested, extended}
+use Rattle.digests.specs.Digests.{onWire, outcome, digested, extended}
 
 module _ (hash : List ℕ → List ℕ) (size : ℕ) where
   pub digest-made : (message buffer : List ℕ) {out : List ℕ} → length buffer ≡ size → out ≡ hash message → outcome 0 out ≡ digested hash size message buffer

@@ -1,6 +1,6 @@
 -- Document 01, When the panel answers no: "An error status on the wire is 2^63 + the number"; success is 0.
 use mathlib.Core.Path.{_≡_, refl}
-use Rattle.panel.specs.Digests.{onWire}
+use Rattle.digests.specs.Digests.{onWire}
 
 pub wire-0 : onWire 0 ≡ 0
 wire-0 = refl

@@ -1,4 +1,4 @@
--- The exported digests: what each call answers and leaves in what it was lent.
+-- Digests and extended registers: what each call answers and leaves in what it was lent.
 use mathlib.Core.Bool.{cond, _&&_}
 use mathlib.Core.List.{List, _++_}
 use mathlib.Core.Path.{_≡_, sym, ap, _∙_}

@@ -1,5 +1,4 @@
 // The calls that the washer's firmware links. A slice is a pointer and a length in C.
-use replay::Replay;
 use service::State;
 use store::Last;
 use store::Store;
@@ -10,15 +9,11 @@ ghost use Rattle.sha1.specs.Sha1.{sha1};
 ghost use Rattle.sha256.specs.Sha256.{sha256};
 ghost use Rattle.layout.specs.Layout.{stateLength};
 ghost use Rattle.digests.specs.Digests.{onWire, outcome, digested, extended};
-ghost use Rattle.placed.specs.Placed.{replayLength};
 ghost use Rattle.panel.specs.Calls.{callOutcome, keptIf, openCall, requestCall, readCallOutcome, filled, nothing, readCall};
-ghost use Rattle.panel.specs.Replays.{beginCallOutcome, beginCall, carriedIf, sliceCallOutcome, sliceCall};
+ghost use Rattle.call_replay.specs.Replays.{beginCallOutcome, beginCall, sliceCallOutcome, sliceCall};
 
 // 01, When the panel answers no: device error, on the wire.
 const DEVICE: u64 = 0x8000_0000_0000_0007;
-
-// 01, Replay: a place beyond the log, or no replay at all. Replay's numbers stand as they are.
-const PLACE_BEYOND: u64 = 35;
 
 // Fills digest, which must be 20 bytes, with the SHA-1 digest of message.
 #[no_mangle]
@@ -190,24 +185,7 @@ pub extern "C" fn sevgharin_read_log(
 pub extern "C" fn sevgharin_begin(replay: &mut [u8], format: u32, log: &[u8]) -> u64
     ensures { λ r. ⌜ beginCallOutcome r (now (replay .exit)) ≡ beginCall (now (replay .entry)) format (now (log .entry)) ⌝ }
 {
-    if replay.len() != placed::REPLAY {
-        return PLACE_BEYOND;
-    }
-    let r = replay::begin(format, log);
-    let p = r.replay;
-    let stop = r.stop;
-    placed::put_replay(replay, p);
-    placed::number_of(stop)
-}
-
-// Writes a replay that a slice has moved on back.
-fn carry(replay: &mut [u8], moved: bool, p: Replay)
-    requires { ⌜ length (now replay) ≡ replayLength ⌝ }
-    ensures { λ _. ⌜ now (replay .exit) ≡ carriedIf moved p (now (replay .entry)) ⌝ }
-{
-    if moved {
-        placed::put_replay(replay, p);
-    }
+    call_replay::begin(replay, format, log)
 }
 
 // Takes at most so many entries as asked. answer must be placed::ANSWER bytes, and is filled with the entries taken, the refusal's number and
@@ -221,14 +199,5 @@ pub extern "C" fn sevgharin_slice(
 ) -> u64
     ensures { λ r. ⌜ sliceCallOutcome r (now (replay .exit)) (now (answer .exit)) ≡ sliceCall (now (replay .entry)) (now (log .entry)) asked (now (answer .entry)) ⌝ }
 {
-    if !((replay.len() == placed::REPLAY) & (answer.len() == placed::ANSWER)) {
-        return PLACE_BEYOND;
-    }
-    let r = placed::replay_at(replay).slice(log, asked as usize);
-    let p = r.replay;
-    let stop = r.stop;
-    let n = placed::number_of(stop);
-    placed::put_answer(answer, r.taken, n, placed::offset_of(stop), r.done);
-    carry(replay, n <= 34, p);
-    n
+    call_replay::slice(replay, log, asked, answer)
 }

@@ -1,4 +1,4 @@
--- What the answers of the exported calls over a replay in lent bytes come to. Assumes nothing.
+-- What the answers of the calls over a replay in lent bytes come to. Assumes nothing.
 use mathlib.Core.Bool.{Bool, true, false, _&&_}
 use mathlib.Core.List.{List}
 use mathlib.Core.Path.{_≡_}
@@ -12,7 +12,7 @@ use Rattle.replay.specs.declared.Begun.{Begun}
 use Rattle.replay.specs.declared.Slice.{Slice}
 use Rattle.replay.specs.Replay.{numberOf, offsetOf, beginOutcome, beginOf, sliceOutcome, sliceOf}
 use Rattle.placed.specs.Placed.{replayBytes, replayLength, replayIn, answerBytes, answerLength}
-use Rattle.panel.specs.Replays.{beginCallOutcome, beginCall, carriedIf, sliceCallOutcome, sliceCall}
+use Rattle.call_replay.specs.Replays.{beginCallOutcome, beginCall, carriedIf, sliceCallOutcome, sliceCall}
 
 -- ---- beginnings
 

@@ -1,4 +1,4 @@
--- The exported calls over a replay in lent bytes: no second outcome meets what one states, 35 and 36 leave the replay's bytes, a refused beginning
+-- The calls over a replay in lent bytes: no second outcome meets what one states, 35 and 36 leave the replay's bytes, a refused beginning
 -- writes zeros, buffers of another length stay, and what a call leaves encodes the replay that it hands back. Assumes nothing.
 use mathlib.Core.Bool.{Bool, true, false}
 use mathlib.Core.List.{List}
@@ -14,8 +14,8 @@ use Rattle.replay.proofs.Begins.{refused-blank}
 use Rattle.placed.specs.Placed.{replayBytes, replayLength, replayIn}
 use Rattle.placed.proofs.Codec.{decode-encode, held-in}
 use Rattle.placed.proofs.Holds.{held-begin, held-slice, kept-slice}
-use Rattle.panel.specs.Replays.{BeginCallOutcome, beginCallOutcome, beginCall, carriedIf, SliceCallOutcome, sliceCallOutcome, sliceCall}
-use Rattle.panel.proofs.Slices.{sized, replay-sized, begin-short, slice-short}
+use Rattle.call_replay.specs.Replays.{BeginCallOutcome, beginCallOutcome, beginCall, carriedIf, SliceCallOutcome, sliceCallOutcome, sliceCall}
+use Rattle.call_replay.proofs.Slices.{sized, replay-sized, begin-short, slice-short}
 
 -- ---- no second outcome
 
@@ -23,7 +23,7 @@ pub record SameBeginCall (r r' : ℕ) (replay replay' : List ℕ) : Type 0 where
   pub number : r ≡ r'
   pub replays : replay ≡ replay'
 
--- no second number and no second content of the replay's bytes meets what `sevgharin_begin` states
+-- no second number and no second content of the replay's bytes meets what `begin` states
 pub unique-begin-call : (o : BeginCallOutcome) (r r' : ℕ) (replay replay' : List ℕ) → beginCallOutcome r replay ≡ o → beginCallOutcome r' replay' ≡ o
     → SameBeginCall r r' replay replay'
 unique-begin-call o r r' replay replay' p q =
@@ -35,7 +35,7 @@ pub record SameSliceCall (r r' : ℕ) (replay replay' answer answer' : List ℕ)
   pub replays : replay ≡ replay'
   pub answers : answer ≡ answer'
 
--- nor what `sevgharin_slice` states
+-- nor what `slice` states
 pub unique-slice-call : (o : SliceCallOutcome) (r r' : ℕ) (replay replay' answer answer' : List ℕ) → sliceCallOutcome r replay answer ≡ o
     → sliceCallOutcome r' replay' answer' ≡ o → SameSliceCall r r' replay replay' answer answer'
 unique-slice-call o r r' replay replay' answer answer' p q =

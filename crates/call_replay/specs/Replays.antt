@@ -1,4 +1,4 @@
--- The exported calls over a replay in lent bytes: what each answers and leaves in what it was lent. Replay's numbers stand as they are, without the
+-- The calls over a replay in lent bytes: what each answers and leaves in what it was lent. Replay's numbers stand as they are, without the
 -- error bit.
 use mathlib.Core.Bool.{Bool, cond, _&&_}
 use mathlib.Core.List.{List}

@@ -1,8 +1,8 @@
--- `panel::sevgharin_begin` meets its contract. Assumes nothing.
-use Rattle.panel.proofs.Slices.{begin-short, begins}
+-- `call_replay::begin` meets its contract. Assumes nothing.
+use Rattle.call_replay.proofs.Slices.{begin-short, begins}
 use borrow.Author.Needs.{needs}
-use Rattle.panel.proofs.sevgharin_begin.Statement.{statement}
-use Rattle.panel.proofs.sevgharin_begin.Tie as tie
+use Rattle.call_replay.proofs.begin.Statement.{statement}
+use Rattle.call_replay.proofs.begin.Tie as tie
 
 returns : tie.Need-returns
 returns c =
@@ -27,7 +27,7 @@ returns-2 c =
     let o = c .before .before .before .before .before .before .begin in
     begins (a .replay .now) (a .format) (a .log .now) (o .result) _ (c .number-of .result) (c .before .before .before .before .before .before .before .if1 .left) (o .ensures) (c .before .before .before .put-replay .ensures) (c .number-of .ensures)
 
-pub sevgharin-begin-spec : {M : Type 1} → statement M
-sevgharin-begin-spec =
+pub begin-spec : {M : Type 1} → statement M
+begin-spec =
     tie.close
     (tie.spec returns begin-requires put-replay-requires number-of-requires same-length returns-2)

@@ -1,8 +1,8 @@
--- `panel::carry` meets its contract. Assumes nothing.
-use Rattle.panel.specs.Replays.{carriedIf}
+-- `call_replay::carry` meets its contract. Assumes nothing.
+use Rattle.call_replay.specs.Replays.{carriedIf}
 use borrow.Author.Needs.{needs}
-use Rattle.panel.proofs.carry.Statement.{statement}
-use Rattle.panel.proofs.carry.Tie as tie
+use Rattle.call_replay.proofs.carry.Statement.{statement}
+use Rattle.call_replay.proofs.carry.Tie as tie
 
 put-replay-requires : tie.Need-put-replay-requires
 put-replay-requires c κs = search needs

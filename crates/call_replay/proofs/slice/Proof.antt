@@ -1,9 +1,9 @@
--- `panel::sevgharin_slice` meets its contract. Assumes nothing.
-use Rattle.panel.proofs.Slices.{replay-sized, answer-sized, slice-short, slices}
+-- `call_replay::slice` meets its contract. Assumes nothing.
+use Rattle.call_replay.proofs.Slices.{replay-sized, answer-sized, slice-short, slices}
 use borrow.Author.Tests.{not-true, not-false}
 use borrow.Author.Needs.{needs}
-use Rattle.panel.proofs.sevgharin_slice.Statement.{statement}
-use Rattle.panel.proofs.sevgharin_slice.Tie as tie
+use Rattle.call_replay.proofs.slice.Statement.{statement}
+use Rattle.call_replay.proofs.slice.Tie as tie
 
 returns : tie.Need-returns
 returns c =
@@ -46,8 +46,8 @@ returns-2 c =
     let o = c .before .before .before .before .before .before .before .before .before .before .before .slice in
     slices (a .replay .now) (a .log .now) (a .asked) (a .answer .now) (o .result) (c .before .before .before .before .before .before .before .before .before .before .before .before .replay-at .result) _ _ (c .before .before .before .before .before .before .before .before .before .number-of .result) (c .before .before .before .before .before .before .before .offset-of .result) (not-false _ (c .before .before .before .before .before .before .before .before .before .before .before .before .before .before .if1 .left)) (c .before .before .before .before .before .before .before .before .before .before .before .before .replay-at .ensures) (o .ensures) (c .before .before .before .before .before .before .before .before .before .number-of .ensures) (c .before .before .before .before .before .before .before .offset-of .ensures) (c .before .before .before .before .before .before .put-answer .ensures) (c .before .before .carry .ensures)
 
-pub sevgharin-slice-spec : {M : Type 1} → statement M
-sevgharin-slice-spec =
+pub slice-spec : {M : Type 1} → statement M
+slice-spec =
     tie.close
     (tie.spec
     returns

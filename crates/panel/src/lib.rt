@@ -1,41 +1,22 @@
 // The calls that the washer's firmware links. A slice is a pointer and a length in C.
-use replay::Replay;
-use service::State;
-use service::Status;
-use store::Last;
-use store::Store;
 ghost use mathlib.Core.Path.{_≡_};
-ghost use Prim.Native.Nat.{_≤_};
 ghost use lib.ListN.{length};
 ghost use Rattle.sha1.specs.Sha1.{sha1};
 ghost use Rattle.sha256.specs.Sha256.{sha256};
-ghost use Rattle.service.specs.Status.{number};
-ghost use Rattle.layout.specs.Layout.{stateLength};
-ghost use Rattle.panel.specs.Digests.{onWire, outcome, digested, extended};
-ghost use Rattle.placed.specs.Placed.{replayLength};
+ghost use Rattle.digests.specs.Digests.{outcome, digested, extended};
+ghost use Rattle.call_state.specs.Calls.{callOutcome};
+ghost use Rattle.call_open.specs.OpenCall.{openCall};
+ghost use Rattle.call_request.specs.RequestCall.{requestCall};
+ghost use Rattle.call_read.specs.ReadCall.{readCallOutcome, readCall};
+ghost use Rattle.call_replay.specs.Replays.{beginCallOutcome, beginCall, sliceCallOutcome, sliceCall};
 ghost use Rattle.version.specs.Version.{version};
-ghost use Rattle.panel.specs.Calls.{callOutcome, keptIf, openCall, requestCall, readCallOutcome, filled, nothing, readCall};
-ghost use Rattle.panel.specs.Replays.{beginCallOutcome, beginCall, carriedIf, sliceCallOutcome, sliceCall};
-
-// 01, When the panel answers no: invalid parameter and device error, on the wire.
-const INVALID: u64 = 0x8000_0000_0000_0002;
-
-const DEVICE: u64 = 0x8000_0000_0000_0007;
-
-// 01, Replay: a place beyond the log, or no replay at all. Replay's numbers stand as they are.
-const PLACE_BEYOND: u64 = 35;
 
 // Fills digest, which must be 20 bytes, with the SHA-1 digest of message.
 #[no_mangle]
 pub extern "C" fn sevgharin_sha1(message: &[u8], digest: &mut [u8]) -> u64
     ensures { λ r. ⌜ outcome r (now (digest .exit)) ≡ digested sha1 20 (now (message .entry)) (now (digest .entry)) ⌝ }
 {
-    if digest.len() == 20 {
-        let h = sha1::digest(message);
-        wire::put_bytes(digest, 0, &h);
-        return 0;
-    }
-    INVALID
+    digests::sha1(message, digest)
 }
 
 // Fills digest, which must be 32 bytes, with the SHA-256 digest of message.
@@ -43,12 +24,7 @@ pub extern "C" fn sevgharin_sha1(message: &[u8], digest: &mut [u8]) -> u64
 pub extern "C" fn sevgharin_sha256(message: &[u8], digest: &mut [u8]) -> u64
     ensures { λ r. ⌜ outcome r (now (digest .exit)) ≡ digested sha256 32 (now (message .entry)) (now (digest .entry)) ⌝ }
 {
-    if digest.len() == 32 {
-        let h = sha256::digest(message);
-        wire::put_bytes(digest, 0, &h);
-        return 0;
-    }
-    INVALID
+    digests::sha256(message, digest)
 }
 
 // Extends register with digest, both 20 bytes, in the SHA-1 bank.
@@ -56,11 +32,7 @@ pub extern "C" fn sevgharin_sha256(message: &[u8], digest: &mut [u8]) -> u64
 pub extern "C" fn sevgharin_sha1_extend(register: &mut [u8], digest: &[u8]) -> u64
     ensures { λ r. ⌜ outcome r (now (register .exit)) ≡ extended sha1 20 (now (register .entry)) (now (digest .entry)) ⌝ }
 {
-    if (register.len() == 20) & (digest.len() == 20) {
-        sha1::extend(register, digest);
-        return 0;
-    }
-    INVALID
+    digests::sha1_extend(register, digest)
 }
 
 // Extends register with digest, both 32 bytes, in the SHA-256 bank.
@@ -68,46 +40,7 @@ pub extern "C" fn sevgharin_sha1_extend(register: &mut [u8], digest: &[u8]) -> u
 pub extern "C" fn sevgharin_sha256_extend(register: &mut [u8], digest: &[u8]) -> u64
     ensures { λ r. ⌜ outcome r (now (register .exit)) ≡ extended sha256 32 (now (register .entry)) (now (digest .entry)) ⌝ }
 {
-    if (register.len() == 32) & (digest.len() == 32) {
-        sha256::extend(register, digest);
-        return 0;
-    }
-    INVALID
-}
-
-// 01, When the panel answers no: a status's number.
-fn number_of(status: Status) -> u64
-    ensures { λ r. ⌜ r ≡ number status ⌝ }
-{
-    match status {
-        Status::Success => 0,
-        Status::InvalidParameter => 2,
-        Status::Unsupported => 3,
-        Status::TooSmall => 5,
-        Status::DeviceError => 7,
-        Status::VolumeFull => 11,
-    }
-}
-
-// 01: "An error status on the wire is 2^63 + the number"; success is 0.
-fn on_wire(n: u64) -> u64
-    requires { ⌜ n ≤ 11 ⌝ }
-    ensures { λ r. ⌜ r ≡ onWire n ⌝ }
-{
-    if n == 0 {
-        return 0;
-    }
-    0x8000_0000_0000_0000 + n
-}
-
-// Writes a state that a call has changed back.
-fn keep(state: &mut [u8], changed: bool, s: State)
-    requires { ⌜ length (now state) ≡ stateLength ⌝ }
-    ensures { λ _. ⌜ now (state .exit) ≡ keptIf changed s (now (state .entry)) ⌝ }
-{
-    if changed {
-        layout::put_state(state, s);
-    }
+    digests::sha256_extend(register, digest)
 }
 
 // Opens the panel's part. state must be layout::STATE bytes, and is overwritten.
@@ -121,14 +54,7 @@ pub extern "C" fn sevgharin_open(
 ) -> u64
     ensures { λ r. ⌜ callOutcome r (now (state .exit)) (now (old .exit)) (now (agile .exit)) (now (table .exit)) ≡ openCall (now (state .entry)) bitmap (now (old .entry)) (now (agile .entry)) (now (table .entry)) ⌝ }
 {
-    if state.len() != layout::STATE {
-        return INVALID;
-    }
-    let r = service::open(bitmap, old, agile, table);
-    let s = r.state;
-    let status = r.status;
-    layout::put_state(state, s);
-    on_wire(number_of(status))
+    call_open::open(state, bitmap, old, agile, table)
 }
 
 // HashLogExtendEvent on the state that lies in state.
@@ -144,46 +70,7 @@ pub extern "C" fn sevgharin_request(
 ) -> u64
     ensures { λ r. ⌜ callOutcome r (now (state .exit)) (now (old .exit)) (now (agile .exit)) (now (table .exit)) ≡ requestCall (now (state .entry)) flags (now (message .entry)) (now (request .entry)) (now (old .entry)) (now (agile .entry)) (now (table .entry)) ⌝ }
 {
-    if !layout::encodes(state) {
-        return DEVICE;
-    }
-    let r = request::request(
-        layout::state_at(state),
-        flags,
-        message,
-        request,
-        old,
-        agile,
-        table,
-    );
-    let s = r.state;
-    let status = r.status;
-    let n = number_of(status);
-    keep(state, (n == 0) | (n == 11), s);
-    on_wire(n)
-}
-
-// Fills an answer record of layout::STORE bytes with a log's marks.
-fn show(answer: &mut [u8], s: Store)
-    ensures { λ _. ⌜ now (answer .exit) ≡ filled s (now (answer .entry)) ⌝ }
-{
-    if answer.len() == layout::STORE {
-        layout::put_store(answer, 0, s);
-    }
-}
-
-// 01: "Refused readings show length 0, no last entry, not closed".
-fn show_nothing(answer: &mut [u8])
-    ensures { λ _. ⌜ now (answer .exit) ≡ filled nothing (now (answer .entry)) ⌝ }
-{
-    show(
-        answer,
-        Store {
-            used: 0,
-            closed: false,
-            last: Last::Missing,
-        },
-    );
+    call_request::request(state, flags, request, message, old, agile, table)
 }
 
 // GetEventLog on the state that lies in state. answer must be layout::STORE bytes, and is filled with the log's used length, closed, last entry.
@@ -198,28 +85,7 @@ pub extern "C" fn sevgharin_read_log(
 ) -> u64
     ensures { λ r. ⌜ readCallOutcome r (now (state .exit)) (now (answer .exit)) ≡ readCall (now (state .entry)) format (length (now (old .entry))) (length (now (agile .entry))) (length (now (table .entry))) (now (answer .entry)) ⌝ }
 {
-    if !layout::encodes(state) {
-        show_nothing(answer);
-        return DEVICE;
-    }
-    let r = service::read_log(layout::state_at(state), format, old, agile, table);
-    let s = r.state;
-    let status = r.status;
-    let last = r.last;
-    let n = number_of(status);
-    if !((n == 7) | (answer.len() == layout::STORE)) {
-        return INVALID;
-    }
-    show(
-        answer,
-        Store {
-            used: r.length,
-            closed: r.closed,
-            last: last,
-        },
-    );
-    keep(state, n == 0, s);
-    on_wire(n)
+    call_read::read_log(state, format, old, agile, table, answer)
 }
 
 // Begins the replay of a log's used bytes. replay must be placed::REPLAY bytes, and is overwritten.
@@ -227,24 +93,7 @@ pub extern "C" fn sevgharin_read_log(
 pub extern "C" fn sevgharin_begin(replay: &mut [u8], format: u32, log: &[u8]) -> u64
     ensures { λ r. ⌜ beginCallOutcome r (now (replay .exit)) ≡ beginCall (now (replay .entry)) format (now (log .entry)) ⌝ }
 {
-    if replay.len() != placed::REPLAY {
-        return PLACE_BEYOND;
-    }
-    let r = replay::begin(format, log);
-    let p = r.replay;
-    let stop = r.stop;
-    placed::put_replay(replay, p);
-    placed::number_of(stop)
-}
-
-// Writes a replay that a slice has moved on back.
-fn carry(replay: &mut [u8], moved: bool, p: Replay)
-    requires { ⌜ length (now replay) ≡ replayLength ⌝ }
-    ensures { λ _. ⌜ now (replay .exit) ≡ carriedIf moved p (now (replay .entry)) ⌝ }
-{
-    if moved {
-        placed::put_replay(replay, p);
-    }
+    call_replay::begin(replay, format, log)
 }
 
 // Takes at most so many entries as asked. answer must be placed::ANSWER bytes, and is filled with the entries taken, the refusal's number and
@@ -258,16 +107,7 @@ pub extern "C" fn sevgharin_slice(
 ) -> u64
     ensures { λ r. ⌜ sliceCallOutcome r (now (replay .exit)) (now (answer .exit)) ≡ sliceCall (now (replay .entry)) (now (log .entry)) asked (now (answer .entry)) ⌝ }
 {
-    if !((replay.len() == placed::REPLAY) & (answer.len() == placed::ANSWER)) {
-        return PLACE_BEYOND;
-    }
-    let r = placed::replay_at(replay).slice(log, asked as usize);
-    let p = r.replay;
-    let stop = r.stop;
-    let n = placed::number_of(stop);
-    placed::put_answer(answer, r.taken, n, placed::offset_of(stop), r.done);
-    carry(replay, n <= 34, p);
-    n
+    call_replay::slice(replay, log, asked, answer)
 }
 
 // The interface's number and the sizes of a state and of a replay, for a caller to hold against its header's.

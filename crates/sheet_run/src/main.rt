@@ -7,13 +7,11 @@ use libc::STDOUT_FILENO;
 use service::Answer;
 use service::Reading;
 use service::State;
-use service::Status;
 use store::Last;
 ghost use mathlib.Core.Path.{_≡_};
 ghost use Prim.Native.Nat.{_≤_};
 ghost use lib.ListN.{length};
 ghost use Rattle.wire.specs.Bytes.{Put, Room};
-ghost use Rattle.service.specs.Status.{number};
 ghost use Rattle.sheet_run.specs.Request.{sizesOf, requestOf};
 
 // The flags of a request.
@@ -97,19 +95,6 @@ fn print_hex(bytes: &[u8])
     print_text(&d[..n]);
 }
 
-fn status_number(s: Status) -> u64
-    ensures { λ r. ⌜ r ≡ number s ⌝ }
-{
-    match s {
-        Status::Success => 0,
-        Status::InvalidParameter => 2,
-        Status::Unsupported => 3,
-        Status::TooSmall => 5,
-        Status::DeviceError => 7,
-        Status::VolumeFull => 11,
-    }
-}
-
 fn print_last(last: Last) {
     match last {
         Last::Missing => print_text(b" none"),
@@ -145,7 +130,7 @@ fn print_answer(a: Answer, old: &[u8], agile: &[u8], table: &[u8])
 {
     let status = a.status;
     let s = a.state;
-    print_number(status_number(status));
+    print_number(service::number_of(status));
     print_marks(s);
     print_hex(old);
     print_hex(agile);
@@ -159,7 +144,7 @@ fn print_reading(r: Reading) {
     let status = r.status;
     let last = r.last;
     let s = r.state;
-    print_number(status_number(status));
+    print_number(service::number_of(status));
     print_number(r.length as u64);
     print_last(last);
     print_number(r.closed as u64);

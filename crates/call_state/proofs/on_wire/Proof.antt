@@ -1,0 +1,17 @@
+-- `call_state::on_wire` meets its contract. Assumes nothing.
+use borrow.Author.Tests.{eq-eqb, ne-eqb}
+use borrow.Author.Needs.{needs}
+use Rattle.call_state.proofs.on_wire.Statement.{statement}
+use Rattle.call_state.proofs.on_wire.Tie as tie
+
+returns : tie.Need-returns
+returns c = rw (eq-eqb _ _ (c .if1 .taken))
+
+add-result : tie.Need-add-result
+add-result c = search needs
+
+returns-2 : tie.Need-returns-2
+returns-2 c = rw (ne-eqb _ _ (c .if1 .left))
+
+pub on-wire-spec : {M : Type 1} → statement M
+on-wire-spec = tie.close (tie.spec returns add-result returns-2)

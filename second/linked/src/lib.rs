@@ -1,10 +1,35 @@
 //! The C calls of the proved library, each behind a safe function.
 
-/// What a call answers when it did what was asked.
-pub const SUCCESS: u64 = 0;
+use model::bank::BANKS;
+use model::calls::Calls;
+use model::service::Buffers;
 
-/// What a call answers when a buffer's length is wrong.
-pub const INVALID_PARAMETER: u64 = (1 << 63) + 2;
+/// The calls of a bank's hash.
+pub struct Hash {
+    pub digest: fn(&[u8], &mut [u8]) -> u64,
+    pub extend: fn(&mut [u8], &[u8]) -> u64,
+}
+
+/// The hashes of the banks, in the table's order.
+pub static HASHES: [Hash; BANKS.len()] = [
+    Hash {
+        digest: sha1,
+        extend: sha1_extend,
+    },
+    Hash {
+        digest: sha256,
+        extend: sha256_extend,
+    },
+];
+
+/// The calls over states and replays.
+pub const LIBRARY: Calls = Calls {
+    open,
+    request,
+    read_log,
+    begin,
+    slice,
+};
 
 extern "C" {
     fn sevgharin_version() -> u64;
@@ -98,18 +123,19 @@ extern "C" {
 // the library keeps no pointer after it returns. The pointer of an empty
 // slice is not null.
 
-/// Writes the SHA-1 digest of `data` to `digest`, which must be 20 octets.
+/// Writes the SHA-1 digest of `data` to `digest`, which must be as long as one.
 pub fn sha1(data: &[u8], digest: &mut [u8]) -> u64 {
     unsafe { sevgharin_sha1(data.as_ptr(), data.len(), digest.as_mut_ptr(), digest.len()) }
 }
 
-/// Writes the SHA-256 digest of `data` to `digest`, which must be 32 octets.
+/// Writes the SHA-256 digest of `data` to `digest`, which must be as long as
+/// one.
 pub fn sha256(data: &[u8], digest: &mut [u8]) -> u64 {
     unsafe { sevgharin_sha256(data.as_ptr(), data.len(), digest.as_mut_ptr(), digest.len()) }
 }
 
 /// Replaces `register` by the SHA-1 digest of `register` then `digest`, both
-/// of 20 octets.
+/// as long as one.
 pub fn sha1_extend(register: &mut [u8], digest: &[u8]) -> u64 {
     unsafe {
         sevgharin_sha1_extend(
@@ -122,7 +148,7 @@ pub fn sha1_extend(register: &mut [u8], digest: &[u8]) -> u64 {
 }
 
 /// Replaces `register` by the SHA-256 digest of `register` then `digest`,
-/// both of 32 octets.
+/// both as long as one.
 pub fn sha256_extend(register: &mut [u8], digest: &[u8]) -> u64 {
     unsafe {
         sevgharin_sha256_extend(
@@ -140,26 +166,20 @@ pub fn version() -> u64 {
     unsafe { sevgharin_version() }
 }
 
-/// Opens with the banks of `bitmap`: writes the state, which must be 1,307
-/// octets, and the beginnings of the agile log and of the table.
-pub fn open(
-    state: &mut [u8],
-    bitmap: u32,
-    log_1_2: &mut [u8],
-    agile: &mut [u8],
-    table: &mut [u8],
-) -> u64 {
+/// Opens with the banks of `bitmap`: writes the state, which must be as long as
+/// one, and the beginnings of the agile log and of the table.
+pub fn open(state: &mut [u8], bitmap: u32, buffers: &mut Buffers) -> u64 {
     unsafe {
         sevgharin_open(
             state.as_mut_ptr(),
             state.len(),
             bitmap,
-            log_1_2.as_mut_ptr(),
-            log_1_2.len(),
-            agile.as_mut_ptr(),
-            agile.len(),
-            table.as_mut_ptr(),
-            table.len(),
+            buffers.log_1_2.as_mut_ptr(),
+            buffers.log_1_2.len(),
+            buffers.agile.as_mut_ptr(),
+            buffers.agile.len(),
+            buffers.table.as_mut_ptr(),
+            buffers.table.len(),
         )
     }
 }
@@ -171,9 +191,7 @@ pub fn request(
     flags: u64,
     request: &[u8],
     data: &[u8],
-    log_1_2: &mut [u8],
-    agile: &mut [u8],
-    table: &mut [u8],
+    buffers: &mut Buffers,
 ) -> u64 {
     unsafe {
         sevgharin_request(
@@ -184,37 +202,30 @@ pub fn request(
             request.len(),
             data.as_ptr(),
             data.len(),
-            log_1_2.as_mut_ptr(),
-            log_1_2.len(),
-            agile.as_mut_ptr(),
-            agile.len(),
-            table.as_mut_ptr(),
-            table.len(),
+            buffers.log_1_2.as_mut_ptr(),
+            buffers.log_1_2.len(),
+            buffers.agile.as_mut_ptr(),
+            buffers.agile.len(),
+            buffers.table.as_mut_ptr(),
+            buffers.table.len(),
         )
     }
 }
 
 /// GetEventLog: writes the marks of the log of `format` to `answer`, which
-/// must be 18 octets, and arms the table in the state.
-pub fn read_log(
-    state: &mut [u8],
-    format: u32,
-    log_1_2: &[u8],
-    agile: &[u8],
-    table: &[u8],
-    answer: &mut [u8],
-) -> u64 {
+/// must be as long as a log's marks, and arms the table in the state.
+pub fn read_log(state: &mut [u8], format: u32, buffers: &Buffers, answer: &mut [u8]) -> u64 {
     unsafe {
         sevgharin_read_log(
             state.as_mut_ptr(),
             state.len(),
             format,
-            log_1_2.as_ptr(),
-            log_1_2.len(),
-            agile.as_ptr(),
-            agile.len(),
-            table.as_ptr(),
-            table.len(),
+            buffers.log_1_2.as_ptr(),
+            buffers.log_1_2.len(),
+            buffers.agile.as_ptr(),
+            buffers.agile.len(),
+            buffers.table.as_ptr(),
+            buffers.table.len(),
             answer.as_mut_ptr(),
             answer.len(),
         )
@@ -222,7 +233,7 @@ pub fn read_log(
 }
 
 /// Begins the replay of a log's used octets: writes the replay, which must be
-/// 1,264 octets.
+/// as long as one.
 pub fn begin(replay: &mut [u8], format: u32, log: &[u8]) -> u64 {
     unsafe {
         sevgharin_begin(
@@ -236,7 +247,7 @@ pub fn begin(replay: &mut [u8], format: u32, log: &[u8]) -> u64 {
 }
 
 /// Takes at most `asked` entries of the log, moves the replay on, and writes
-/// what it did to `answer`, which must be 25 octets.
+/// what it did to `answer`, which must be as long as a slice's answer record.
 pub fn slice(replay: &mut [u8], log: &[u8], asked: u64, answer: &mut [u8]) -> u64 {
     unsafe {
         sevgharin_slice(

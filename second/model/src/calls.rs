@@ -5,7 +5,7 @@ use crate::replay::{
     self, answer_bytes, replay_bytes, replay_from, Replay, ANSWER_BYTES, REPLAY_BYTES,
 };
 use crate::service::{
-    self, marks_bytes, state_bytes, state_from, Buffers, Lengths, Status, MARKS_BYTES, STATE_BYTES,
+    self, marks_bytes, state_bytes, state_from, Buffers, Status, MARKS_BYTES, STATE_BYTES,
 };
 use crate::store::Store;
 
@@ -18,9 +18,9 @@ pub struct Calls {
     pub slice: Slice,
 }
 
-pub type Open = fn(&mut [u8], u32, &mut [u8], &mut [u8], &mut [u8]) -> u64;
-pub type Request = fn(&mut [u8], u64, &[u8], &[u8], &mut [u8], &mut [u8], &mut [u8]) -> u64;
-pub type ReadLog = fn(&mut [u8], u32, &[u8], &[u8], &[u8], &mut [u8]) -> u64;
+pub type Open = fn(&mut [u8], u32, &mut Buffers) -> u64;
+pub type Request = fn(&mut [u8], u64, &[u8], &[u8], &mut Buffers) -> u64;
+pub type ReadLog = fn(&mut [u8], u32, &Buffers, &mut [u8]) -> u64;
 pub type Begin = fn(&mut [u8], u32, &[u8]) -> u64;
 pub type Slice = fn(&mut [u8], &[u8], u64, &mut [u8]) -> u64;
 
@@ -45,22 +45,11 @@ pub fn version() -> u64 {
 }
 
 /// The state handed out is written, the blank one of a refused opening too.
-pub fn open(
-    state: &mut [u8],
-    bitmap: u32,
-    log_1_2: &mut [u8],
-    agile: &mut [u8],
-    table: &mut [u8],
-) -> u64 {
+pub fn open(state: &mut [u8], bitmap: u32, buffers: &mut Buffers) -> u64 {
     if state.len() != STATE_BYTES {
         return Status::InvalidParameter.wire();
     }
-    let mut buffers = Buffers {
-        log_1_2,
-        agile,
-        table,
-    };
-    let (status, opened) = service::open(bitmap, &mut buffers);
+    let (status, opened) = service::open(bitmap, buffers);
     state.copy_from_slice(&state_bytes(&opened));
     status.wire()
 }
@@ -71,44 +60,25 @@ pub fn request(
     flags: u64,
     request: &[u8],
     data: &[u8],
-    log_1_2: &mut [u8],
-    agile: &mut [u8],
-    table: &mut [u8],
+    buffers: &mut Buffers,
 ) -> u64 {
     let Some(mut kept) = state_from(state) else {
         return Status::DeviceError.wire();
     };
-    let mut buffers = Buffers {
-        log_1_2,
-        agile,
-        table,
-    };
-    let status = service::request(&mut kept, flags, request, data, &mut buffers);
+    let status = service::request(&mut kept, flags, request, data, buffers);
     if matches!(status, Status::Success | Status::VolumeFull) {
         state.copy_from_slice(&state_bytes(&kept));
     }
     status.wire()
 }
 
-/// The state is written on 0. An answer record of 18 bytes is always written,
-/// one of another length is a 2 and stays.
-pub fn read_log(
-    state: &mut [u8],
-    format: u32,
-    log_1_2: &[u8],
-    agile: &[u8],
-    table: &[u8],
-    answer: &mut [u8],
-) -> u64 {
-    let lengths = Lengths {
-        log_1_2: log_1_2.len(),
-        agile: agile.len(),
-        table: table.len(),
-    };
+/// The state is written on 0. An answer record of the marks' length is always
+/// written, one of another length is a 2 and stays.
+pub fn read_log(state: &mut [u8], format: u32, buffers: &Buffers, answer: &mut [u8]) -> u64 {
     let (status, marks) = match state_from(state) {
         None => (Status::DeviceError, Store::empty()),
         Some(mut kept) => {
-            let (status, marks) = service::read_log(&mut kept, format, &lengths);
+            let (status, marks) = service::read_log(&mut kept, format, &buffers.lengths());
             if status == Status::Success {
                 if answer.len() != MARKS_BYTES {
                     return Status::InvalidParameter.wire();
@@ -157,33 +127,46 @@ pub fn slice(replay: &mut [u8], log: &[u8], asked: u64, answer: &mut [u8]) -> u6
 #[cfg(test)]
 mod tests {
     use super::*;
+    use crate::bank::ALL;
+    use crate::limits::LONGEST;
+    use crate::service::Room;
 
     const DEVICE_ERROR: u64 = (1 << 63) + 7;
     const INVALID_PARAMETER: u64 = (1 << 63) + 2;
 
+    /// As little as an opening with both banks needs.
+    fn room() -> Room {
+        Room::new(0xa5, 0, 69, 16)
+    }
+
+    fn unwritten(room: &Room) -> bool {
+        let bytes = [&room.log_1_2[..], &room.agile, &room.table].concat();
+        bytes.iter().all(|&byte| byte == 0xa5)
+    }
+
     fn opened() -> Vec<u8> {
         let mut state = vec![0xa5; STATE_BYTES];
-        let status = open(&mut state, 3, &mut [], &mut [0; 69], &mut [0; 16]);
+        let status = open(&mut state, 3, &mut room().lend());
         assert_eq!(status, 0);
         state
     }
 
     fn read(state: &mut [u8], format: u32, answer: &mut [u8]) -> u64 {
-        read_log(state, format, &[], &[0; 69], &[0; 16], answer)
+        read_log(state, format, &room().lend(), answer)
     }
 
     #[test]
     fn opening() {
-        for len in [0, 1_306, 1_308] {
+        for len in [0, STATE_BYTES - 1, STATE_BYTES + 1] {
             let mut state = vec![0xa5; len];
-            let (mut agile, mut table) = ([0xa5; 69], [0xa5; 16]);
-            let status = open(&mut state, 3, &mut [], &mut agile, &mut table);
+            let mut room = room();
+            let status = open(&mut state, 3, &mut room.lend());
             assert_eq!(status, INVALID_PARAMETER);
             assert_eq!(state, vec![0xa5; len]);
-            assert_eq!((agile, table), ([0xa5; 69], [0xa5; 16]));
+            assert!(unwritten(&room));
         }
         let mut state = [0xa5; STATE_BYTES];
-        let status = open(&mut state, 3, &mut [], &mut [0; 68], &mut [0; 16]);
+        let status = open(&mut state, 3, &mut Room::new(0xa5, 0, 68, 16).lend());
         assert_eq!(status, (1 << 63) + 5);
         assert_eq!(state, [0; STATE_BYTES]);
         assert_eq!(opened()[22..30], 69_u64.to_le_bytes());
@@ -205,7 +188,7 @@ mod tests {
         assert_eq!(answer[..10], [69, 0, 0, 0, 0, 0, 0, 0, 0, 1]);
         assert_eq!(state[57], 1);
         // 7 before 2.
-        for (place, byte) in [(0, 4), (58, 2)] {
+        for (place, byte) in [(0, ALL as u8 + 1), (58, 2)] {
             let mut state = opened();
             state[place] = byte;
             let before = state.clone();
@@ -221,10 +204,9 @@ mod tests {
     #[test]
     fn requests() {
         let lent = [18, 0, 0, 0, 14, 0, 0, 0, 0, 0, 1, 0, 0, 0, 0, 0, 0, 0];
-        let (mut agile, mut table) = ([0xa5; 69], [0xa5; 16]);
-        let mut call = |state: &mut [u8], flags| {
-            request(state, flags, &lent, b"x", &mut [], &mut agile, &mut table)
-        };
+        let mut room = room();
+        let mut call =
+            |state: &mut [u8], flags| request(state, flags, &lent, b"x", &mut room.lend());
         let mut state = opened();
         assert_eq!(call(&mut state, 0x10), (1 << 63) + 3);
         assert_eq!(state, opened());
@@ -235,12 +217,12 @@ mod tests {
         assert_eq!(call(&mut state, 0), DEVICE_ERROR);
         assert_eq!(state, before);
         assert_eq!(call(&mut state[1..], 0), DEVICE_ERROR);
-        assert_eq!((agile, table), ([0xa5; 69], [0xa5; 16]));
+        assert!(unwritten(&room));
     }
 
     #[test]
     fn beginnings() {
-        for len in [0, 1_263, 1_265] {
+        for len in [0, REPLAY_BYTES - 1, REPLAY_BYTES + 1] {
             let mut replay = vec![0xa5; len];
             assert_eq!(begin(&mut replay, 3, &[]), 35);
             assert_eq!(replay, vec![0xa5; len]);
@@ -266,7 +248,8 @@ mod tests {
         log[32] = 24;
         let mut begun = [0; REPLAY_BYTES];
         assert_eq!(begin(&mut begun, 1, &log), 0);
-        for (len, answer_len) in [(1_263, 25), (1_264, 24), (1_264, 26), (0, 0)] {
+        let edge = REPLAY_BYTES;
+        for (len, answer_len) in [(edge - 1, 25), (edge, 24), (edge, 26), (0, 0)] {
             let mut replay = begun[..len].to_vec();
             let mut answer = vec![0xa5; answer_len];
             assert_eq!(slice(&mut replay, &log, 1, &mut answer), 35);
@@ -286,7 +269,7 @@ mod tests {
         assert_ne!(replay[16..], begun[16..]);
         // A place beyond the log, and a log that is too long, leave it.
         let before = replay;
-        for (log, number) in [(vec![0; 31], 35), (vec![0; 65_537], 36)] {
+        for (log, number) in [(vec![0; 31], 35), (vec![0; LONGEST + 1], 36)] {
             assert_eq!(slice(&mut replay, &log, 9, &mut answer), number);
             assert_eq!((answer[0], answer[8], answer[16]), (0, number as u8, 32));
             assert_eq!(replay, before);

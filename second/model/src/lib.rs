@@ -5,12 +5,14 @@
 pub mod bank;
 pub mod calls;
 pub mod entry;
-pub mod hex;
+pub mod limits;
 pub mod messages;
-mod padding;
+pub mod octets;
 pub mod random;
 pub mod replay;
+pub mod request;
 pub mod service;
+mod sha;
 pub mod sha1;
 pub mod sha256;
 pub mod store;

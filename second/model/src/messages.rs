@@ -1,4 +1,6 @@
-//! The messages whose digests the programs print.
+//! The messages whose digests the programs print or compare.
+
+use crate::bank::BANKS;
 
 /// The 448-bit message of the FIPS 180 examples.
 pub const FIPS_448: &[u8] = b"abcdbcdecdefdefgefghfghighijhijkijkljklmklmnlmnomnopnopq";
@@ -6,6 +8,12 @@ pub const FIPS_448: &[u8] = b"abcdbcdecdefdefgefghfghighijhijkijkljklmklmnlmnomn
 /// The 896-bit message of the FIPS 180 examples.
 pub const FIPS_896: &[u8] = b"abcdefghbcdefghicdefghijdefghijkefghijklfghijklm\
     ghijklmnhijklmnoijklmnopjklmnopqklmnopqrlmnopqrsmnopqrstnopqrstu";
+
+/// The digests of one million 'a' in the FIPS 180 examples, bank by bank.
+pub const MILLION_A: [&str; BANKS.len()] = [
+    "34aa973cd4c4daa4f61eeb2bdbad27316534016f",
+    "cdc76e5c9914fb9281a1c7e284d73e67f1809a48a497200e046d39ccc7112cd0",
+];
 
 /// The sentence of 001's request.
 pub const FOX: &[u8] = b"The quick brown fox jumps over the lazy dog";

@@ -1,6 +1,9 @@
 //! SHA-256, FIPS 180-4, 6.2.
 
-use crate::padding::{Padded, BLOCK};
+use crate::sha::{self, add, ch, maj};
+
+/// Octets of a digest.
+pub const DIGEST: usize = 32;
 
 /// The initial hash value, FIPS 180-4, 5.3.3.
 const INITIAL: [u32; 8] = [
@@ -20,14 +23,8 @@ const K: [u32; 64] = [
 ];
 
 /// The SHA-256 digest of `message`.
-pub fn digest(message: &[u8]) -> [u8; 32] {
-    let mut hash = INITIAL;
-    let blocks = message.chunks_exact(BLOCK);
-    let end = Padded::new(blocks.remainder(), message.len());
-    for block in blocks.chain(end.blocks()) {
-        compress(&mut hash, block);
-    }
-    octets(&hash)
+pub fn digest(message: &[u8]) -> [u8; DIGEST] {
+    sha::digest(INITIAL, compress, message)
 }
 
 /// One block, FIPS 180-4, 6.2.2.
@@ -50,17 +47,12 @@ fn compress(hash: &mut [u32; 8], block: &[u8]) {
         b = a;
         a = t1.wrapping_add(t2);
     }
-    for (h, v) in hash.iter_mut().zip([a, b, c, d, e, f, g, h]) {
-        *h = h.wrapping_add(v);
-    }
+    add(hash, [a, b, c, d, e, f, g, h]);
 }
 
 /// The message schedule, FIPS 180-4, 6.2.2, step 1.
 fn schedule(block: &[u8]) -> [u32; 64] {
-    let mut w = [0; 64];
-    for (word, octets) in w.iter_mut().zip(block.chunks_exact(4)) {
-        *word = u32::from_be_bytes([octets[0], octets[1], octets[2], octets[3]]);
-    }
+    let mut w = sha::schedule(block);
     for t in 16..64 {
         w[t] = small_sigma_1(w[t - 2])
             .wrapping_add(w[t - 7])
@@ -70,15 +62,7 @@ fn schedule(block: &[u8]) -> [u32; 64] {
     w
 }
 
-// The functions of FIPS 180-4, 4.1.2, equations 4.2 to 4.7.
-
-fn ch(x: u32, y: u32, z: u32) -> u32 {
-    (x & y) ^ (!x & z)
-}
-
-fn maj(x: u32, y: u32, z: u32) -> u32 {
-    (x & y) ^ (x & z) ^ (y & z)
-}
+// The functions of FIPS 180-4, 4.1.2, equations 4.4 to 4.7.
 
 fn big_sigma_0(x: u32) -> u32 {
     x.rotate_right(2) ^ x.rotate_right(13) ^ x.rotate_right(22)
@@ -94,59 +78,4 @@ fn small_sigma_0(x: u32) -> u32 {
 
 fn small_sigma_1(x: u32) -> u32 {
     x.rotate_right(17) ^ x.rotate_right(19) ^ (x >> 10)
-}
-
-fn octets(hash: &[u32; 8]) -> [u8; 32] {
-    let mut digest = [0; 32];
-    for (octets, word) in digest.chunks_exact_mut(4).zip(hash) {
-        octets.copy_from_slice(&word.to_be_bytes());
-    }
-    digest
-}
-
-#[cfg(test)]
-mod tests {
-    use super::digest;
-    use crate::hex::hex;
-    use crate::messages::{FIPS_448, FIPS_896};
-
-    #[test]
-    fn empty() {
-        assert_eq!(
-            hex(&digest(b"")),
-            "e3b0c44298fc1c149afbf4c8996fb92427ae41e4649b934ca495991b7852b855"
-        );
-    }
-
-    #[test]
-    fn abc() {
-        assert_eq!(
-            hex(&digest(b"abc")),
-            "ba7816bf8f01cfea414140de5dae2223b00361a396177a9cb410ff61f20015ad"
-        );
-    }
-
-    #[test]
-    fn fips_448() {
-        assert_eq!(
-            hex(&digest(FIPS_448)),
-            "248d6a61d20638b8e5c026930c3e6039a33ce45964ff2167f6ecedd419db06c1"
-        );
-    }
-
-    #[test]
-    fn fips_896() {
-        assert_eq!(
-            hex(&digest(FIPS_896)),
-            "cf5b16a778af8380036ce59e7b0492370b249b11e8f07a51afac45037afee9d1"
-        );
-    }
-
-    #[test]
-    fn million_a() {
-        assert_eq!(
-            hex(&digest(&[b'a'; 1_000_000])),
-            "cdc76e5c9914fb9281a1c7e284d73e67f1809a48a497200e046d39ccc7112cd0"
-        );
-    }
 }

@@ -1,8 +1,8 @@
--- `printed::put_banks` meets its contract. The loop's invariant: what is left to write are the lines of the active banks from row i on. Assumes nothing.
-use Rattle.printed.proofs.Laws.{linesLeft, lines-on, lines-off, lines-end}
+-- `printed_lines::put_banks` meets its contract. The loop's invariant: what is left to write are the lines of the active banks from row i on. Assumes nothing.
+use Rattle.printed_lines.proofs.Laws.{linesLeft, lines-on, lines-off, lines-end}
 use Rattle.entry.proofs.Writing.{left-on, left-off}
 use Rattle.wire.proofs.Laws.{Left, left-all, left-none, room-first}
-use Rattle.printed.specs.Lines.{linesFirst}
+use Rattle.printed_lines.specs.Lines.{linesFirst}
 use Rattle.bank.specs.Bank.{rows, banks, bankAt}
 use mathlib.Core.Logic.{⊎-elim}
 use lib.ListN.{length}
@@ -10,8 +10,8 @@ use mathlib.Core.Path.{_≡_, sym, ap, _∙_}
 use Prim.Native.Nat.{_-_, _≤_, _<_}
 use native.Mathlib.Omega.{arith}
 use borrow.Author.Needs.{needs}
-use Rattle.printed.proofs.put_banks.Statement.{statement}
-use Rattle.printed.proofs.put_banks.Tie as tie
+use Rattle.printed_lines.proofs.put_banks.Statement.{statement}
+use Rattle.printed_lines.proofs.put_banks.Tie as tie
 
 abbrev Inv-loop : tie.InvT-loop
 Inv-loop d₀ at bitmap registers p₀ i₀ d p i = (i ≤ rows) × (length d ≡ length d₀) × Left d₀ at (linesLeft bitmap 0 registers) d p (linesLeft bitmap i registers)

@@ -1,5 +1,5 @@
 -- The proof of the cycle of calls {put_digits}: the measure is the number of digits allowed. Assumes nothing.
-use Rattle.printed.proofs.Laws.{digits-none, digits-one, digits-more}
+use Rattle.printed_lines.proofs.Laws.{digits-none, digits-one, digits-more}
 use Rattle.wire.proofs.Laws.{nothing, then, room-first, room-then}
 use native.Mathlib.Nat.{pos-of-ne-zero}
 use native.Mathlib.Omega.{arith}
@@ -7,12 +7,12 @@ use borrow.Author.Needs.{needs}
 use Prim.Native.Nat.{ℕ, _<_}
 use borrow.Fn.Kinds.{In}
 use borrow.Fn.PlainCycle.{Measures, is, falls, and}
-use Rattle.printed.proofs.put_digits.Reads as put-digits
-use Rattle.printed.proofs.put_digits.Kinds as put-digits-kinds
-use Rattle.printed.proofs.+put_digits.Lts-put_digits as put-digits-lts
+use Rattle.printed_lines.proofs.put_digits.Reads as put-digits
+use Rattle.printed_lines.proofs.put_digits.Kinds as put-digits-kinds
+use Rattle.printed_lines.proofs.+put_digits.Lts-put_digits as put-digits-lts
 use Rattle.wire.proofs.put_fill.Reads as put-fill-reads
-use Rattle.printed.proofs.+put_digits.{statement}
-use Rattle.printed.proofs.+put_digits.Tie.{close}
+use Rattle.printed_lines.proofs.+put_digits.{statement}
+use Rattle.printed_lines.proofs.+put_digits.Tie.{close}
 
 abbrev μ-put-digits : Measures 1 put-digits-kinds.ps ℕ
 μ-put-digits κs a = a .1 .1 .1 .0

@@ -1,15 +1,15 @@
--- `printed::put_bank` meets its contract. The loop's invariant: the lines of the first r registers are written. Assumes nothing.
-use Rattle.printed.proofs.Laws.{room-line, put-line}
+-- `printed_lines::put_bank` meets its contract. The loop's invariant: the lines of the first r registers are written. Assumes nothing.
+use Rattle.printed_lines.proofs.Laws.{room-line, put-line}
 use Rattle.wire.proofs.Laws.{nothing, put-length}
 use Rattle.wire.specs.Bytes.{Put}
-use Rattle.printed.specs.Lines.{linesFirst}
+use Rattle.printed_lines.specs.Lines.{linesFirst}
 use Rattle.bank.specs.Bank.{bankAt}
 use mathlib.Core.Path.{_≡_}
 use Prim.Native.Nat.{_-_, _≤_}
 use native.Mathlib.Omega.{arith}
 use borrow.Author.Needs.{needs}
-use Rattle.printed.proofs.put_bank.Statement.{statement}
-use Rattle.printed.proofs.put_bank.Tie as tie
+use Rattle.printed_lines.proofs.put_bank.Statement.{statement}
+use Rattle.printed_lines.proofs.put_bank.Tie as tie
 
 abbrev Inv-loop : tie.InvT-loop
 Inv-loop d₀ at i registers p₀ r₀ d p r = (r ≤ 24) × Put d₀ at (linesFirst (bankAt i) r registers) p d

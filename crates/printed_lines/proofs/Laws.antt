@@ -12,7 +12,7 @@ use Rattle.wire.specs.Bytes.{Put, Room}
 use Rattle.wire.proofs.Laws.{then, put-length}
 use Rattle.bank.specs.Bank.{Bank, rows, bankAt, active}
 use Rattle.bank.proofs.Turns.{rest, rest-on, rest-off, rest-end}
-use Rattle.printed.specs.Lines.{digits, name, registerLine, linesFirst, banksLines}
+use Rattle.printed_lines.specs.Lines.{digits, name, registerLine, linesFirst, banksLines}
 
 -- ---- the digits of a number
 

@@ -1,9 +1,9 @@
--- `printed::put_entries` meets its contract. Assumes nothing.
+-- `printed_lines::put_entries` meets its contract. Assumes nothing.
 use Rattle.wire.proofs.Laws.{then, room-first, room-then}
-use Rattle.printed.specs.Lines.{numbered, entriesWord, entriesLine}
+use Rattle.printed_lines.specs.Lines.{numbered, entriesWord, entriesLine}
 use borrow.Author.Needs.{needs}
-use Rattle.printed.proofs.put_entries.Statement.{statement}
-use Rattle.printed.proofs.put_entries.Tie as tie
+use Rattle.printed_lines.proofs.put_entries.Statement.{statement}
+use Rattle.printed_lines.proofs.put_entries.Tie as tie
 
 slice-aggregate-put-numbered : tie.Need-slice-aggregate-put-numbered
 slice-aggregate-put-numbered c = search needs

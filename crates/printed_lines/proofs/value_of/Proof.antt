@@ -1,10 +1,10 @@
--- `printed::value_of` meets its contract: the register's place lies in the registers. Assumes nothing.
+-- `printed_lines::value_of` meets its contract: the register's place lies in the registers. Assumes nothing.
 use mathlib.Core.Path.{_∙_}
 use native.Mathlib.Omega.{arith}
 use Rattle.bank.proofs.Turns.{Register, register-end}
 use borrow.Author.Needs.{needs}
-use Rattle.printed.proofs.value_of.Statement.{statement}
-use Rattle.printed.proofs.value_of.Tie as tie
+use Rattle.printed_lines.proofs.value_of.Statement.{statement}
+use Rattle.printed_lines.proofs.value_of.Tie as tie
 
 -- the register that is looked at
 place : (c : tie.After-from) → Register (c .before .before .before .args .i) (c .before .before .before .args .r) (c .before .size .result) (c .from .result)

@@ -1,9 +1,9 @@
--- `printed::put_name` meets its contract. Assumes nothing.
+-- `printed_lines::put_name` meets its contract. Assumes nothing.
 use Rattle.bank.specs.Bank.{bankAt}
-use Rattle.printed.proofs.Laws.{name-first, name-other}
+use Rattle.printed_lines.proofs.Laws.{name-first, name-other}
 use borrow.Author.Needs.{needs}
-use Rattle.printed.proofs.put_name.Statement.{statement}
-use Rattle.printed.proofs.put_name.Tie as tie
+use Rattle.printed_lines.proofs.put_name.Statement.{statement}
+use Rattle.printed_lines.proofs.put_name.Tie as tie
 
 algorithm-requires : tie.Need-algorithm-requires
 algorithm-requires c κs = search needs

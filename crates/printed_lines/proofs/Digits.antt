@@ -8,7 +8,7 @@ use native.Mathlib.Omega.{arith}
 use borrow.Author.Tests.{ltb-false}
 use lib.Dec.{ltb}
 use lib.ListN.{replicate, getD}
-use Rattle.printed.specs.Lines.{digits, decimal}
+use Rattle.printed_lines.specs.Lines.{digits, decimal}
 
 -- the number that digits spell behind the number n
 abbrev pub spelled : ℕ → List ℕ → ℕ

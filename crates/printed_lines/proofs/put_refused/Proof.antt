@@ -1,9 +1,9 @@
--- `printed::put_refused` meets its contract. Assumes nothing.
+-- `printed_lines::put_refused` meets its contract. Assumes nothing.
 use Rattle.wire.proofs.Laws.{then, room-first, room-then}
-use Rattle.printed.specs.Lines.{numbered, refusedWord, atWord, refusedLine}
+use Rattle.printed_lines.specs.Lines.{numbered, refusedWord, atWord, refusedLine}
 use borrow.Author.Needs.{needs}
-use Rattle.printed.proofs.put_refused.Statement.{statement}
-use Rattle.printed.proofs.put_refused.Tie as tie
+use Rattle.printed_lines.proofs.put_refused.Statement.{statement}
+use Rattle.printed_lines.proofs.put_refused.Tie as tie
 
 slice-aggregate-put-numbered : tie.Need-slice-aggregate-put-numbered
 slice-aggregate-put-numbered c = search needs

@@ -11,7 +11,7 @@ use lib.ListN.{length, replicate, length-append, length-take}
 use Rattle.hex.proofs.Laws.{length-hex}
 use Rattle.bank.specs.Bank.{Bank, sha1Bank, sha256Bank, table, active, keep, activeOf, banks}
 use Rattle.bank.specs.Registers.{value}
-use Rattle.printed.specs.Lines.{digits, decimal, numbered, refusedWord, atWord, refusedLine, entriesWord, entriesLine, name, twoDigits, lineHead, registerLine, linesFirst, banksLines}
+use Rattle.printed_lines.specs.Lines.{digits, decimal, numbered, refusedWord, atWord, refusedLine, entriesWord, entriesLine, name, twoDigits, lineHead, registerLine, linesFirst, banksLines}
 
 -- ---- numbers
 

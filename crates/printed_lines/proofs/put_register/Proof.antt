@@ -1,9 +1,9 @@
--- `printed::put_register` meets its contract. Assumes nothing.
+-- `printed_lines::put_register` meets its contract. Assumes nothing.
 use Rattle.wire.proofs.Laws.{then, room-first, room-then}
-use Rattle.printed.specs.Lines.{registerLine}
+use Rattle.printed_lines.specs.Lines.{registerLine}
 use borrow.Author.Needs.{needs}
-use Rattle.printed.proofs.put_register.Statement.{statement}
-use Rattle.printed.proofs.put_register.Tie as tie
+use Rattle.printed_lines.proofs.put_register.Statement.{statement}
+use Rattle.printed_lines.proofs.put_register.Tie as tie
 
 put-head-requires : tie.Need-put-head-requires
 unfolding registerLine

@@ -1,9 +1,9 @@
--- `printed::put_numbered` meets its contract. Assumes nothing.
+-- `printed_lines::put_numbered` meets its contract. Assumes nothing.
 use Rattle.wire.proofs.Laws.{then, room-first, room-then}
-use Rattle.printed.specs.Lines.{numbered}
+use Rattle.printed_lines.specs.Lines.{numbered}
 use borrow.Author.Needs.{needs}
-use Rattle.printed.proofs.put_numbered.Statement.{statement}
-use Rattle.printed.proofs.put_numbered.Tie as tie
+use Rattle.printed_lines.proofs.put_numbered.Statement.{statement}
+use Rattle.printed_lines.proofs.put_numbered.Tie as tie
 
 put-bytes-requires : tie.Need-put-bytes-requires
 unfolding numbered

@@ -10,7 +10,8 @@ use Rattle.service.specs.State.{belongs}
 use Rattle.service.specs.Answer.{Outcome, untouched}
 use Rattle.service.specs.Reading.{ReadOutcome, readingOf, refused}
 use Rattle.service.proofs.Readings.{asksOld, exactly-7 as read-exactly-7, unchanged-7 as read-unchanged-7, exactly-2 as read-exactly-2, unchanged-2 as read-unchanged-2, exactly-0 as read-exactly-0}
-use Rattle.request.specs.Request.{wellFormed, peCoff, requestOf}
+use Rattle.request_checks.specs.Checks.{wellFormed}
+use Rattle.request.specs.Request.{peCoff, requestOf}
 use Rattle.request.proofs.Requests.{elevens, exactly-7, unchanged-7, exactly-2, unchanged-2, exactly-3, unchanged-3, exactly-11, exactly-0}
 use Rattle.layout.specs.Layout.{storeLength, stateIn, encodes}
 use Rattle.panel.specs.Digests.{onWire}

@@ -6,7 +6,8 @@ use Prim.Native.Nat.{ℕ}
 use lib.ListN.{length}
 use Rattle.service.specs.State.{belongs}
 use Rattle.service.specs.Answer.{Outcome, untouched}
-use Rattle.request.specs.Request.{wellFormed, peCoff, requestOf}
+use Rattle.request_checks.specs.Checks.{wellFormed}
+use Rattle.request.specs.Request.{peCoff, requestOf}
 use Rattle.request.proofs.Requests.{elevens, exactly-7, unchanged-7, exactly-2, unchanged-2, exactly-3, unchanged-3, exactly-11, exactly-0}
 use Rattle.layout.specs.Layout.{stateIn, encodes}
 use Rattle.digests.specs.Digests.{onWire}

@@ -22,8 +22,9 @@ use Rattle.entry.proofs.Header.{header-found}
 use Rattle.entry.proofs.Laws.{length-header}
 use Rattle.service.specs.Opening.{openingOf}
 use Rattle.service.specs.Reading.{readingOf}
-use Rattle.replay.specs.Walk.{sum}
-use Rattle.replay.specs.Replay.{BeginOutcome, SliceOutcome, begun, notBegun, fresh, beginOf, isGiven, formOf}
+use Rattle.replay_walk.specs.Walk.{sum}
+use Rattle.replay_walk.specs.Taken.{formOf}
+use Rattle.replay.specs.Replay.{BeginOutcome, SliceOutcome, begun, notBegun, fresh, beginOf, isGiven}
 use Rattle.history.specs.History.{Call, Panel, run, opening, Measure, entryOf, bytesIn, plain, accepted, logged, cutOff, allBytes, recorded, made}
 use Rattle.history.specs.Replayed.{replayed}
 use Rattle.history.proofs.Fits.{Fit, agile-least, old-least, fit-belongs}

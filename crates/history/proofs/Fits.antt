@@ -17,7 +17,8 @@ use Rattle.entry.specs.Header.{headerLength}
 use Rattle.entry.proofs.Laws.{length-old, length-agile, fits-hashes, digests-least}
 use Rattle.store.specs.Store.{countLimit, Offered, offered, TableOffered, tableOffered}
 use Rattle.service.specs.State.{belongs, lastFits}
-use Rattle.request.specs.Request.{extendOnly, offerIf, offerTableIf}
+use Rattle.request_log.specs.Log.{offerIf, offerTableIf}
+use Rattle.request.specs.Request.{extendOnly}
 use Rattle.request.specs.Request as spec
 use Rattle.history.specs.History.{Call, ask, reading, Panel, step, run, Measure, measureOf, entryOf, isGood, arms}
 use Rattle.history.proofs.Stores.{length-sets, offer-closed, offer-taken, offer-shut, table-closed, table-taken, table-shut}

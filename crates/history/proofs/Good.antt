@@ -13,8 +13,9 @@ use Rattle.bank.specs.Bank.{Bank}
 use Rattle.bank.proofs.Laws.{Every}
 use Rattle.entry.specs.Entry.{Well, eventLimit}
 use Rattle.entry.proofs.Laws.{fits-hashes}
-use Rattle.request.specs.Request.{wellFormed, peCoff, extendOnly}
-use Rattle.request.proofs.Laws.{good-of}
+use Rattle.request_checks.specs.Checks.{wellFormed}
+use Rattle.request.specs.Request.{peCoff, extendOnly}
+use Rattle.request_checks.proofs.Laws.{good-of}
 use Rattle.history.specs.History.{Call, ask, reading, Measure, measureOf, entryOf, isGood, keepIf, accepted, logged, fitting}
 
 -- every request consists of bytes

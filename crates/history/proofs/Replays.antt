@@ -12,10 +12,11 @@ use lib.Seq.{drop-at}
 use Rattle.bank.specs.Bank.{Bank}
 use Rattle.entry.specs.Entry.{logLimit}
 use Rattle.entry.specs.Read.{got}
-use Rattle.replay.specs.Walk.{fine, walk, more, sum}
+use Rattle.replay_walk.specs.Walk.{fine, walk, more, sum}
 use Rattle.replay.specs.declared.Replay.{Replay}
-use Rattle.replay.specs.Replay.{sliceOf, isGiven, formOf, takes}
-use Rattle.replay.proofs.Walks.{came, walk-got}
+use Rattle.replay_walk.specs.Taken.{formOf, takes}
+use Rattle.replay.specs.Replay.{sliceOf, isGiven}
+use Rattle.replay_walk.proofs.Walks.{came, walk-got}
 use Rattle.history.specs.History.{Measure, entryOf, bytesIn, allBytes, extendBy}
 use Rattle.history.specs.Replayed.{counting, replayed}
 use Rattle.history.proofs.Good.{GoodMeasure, All}

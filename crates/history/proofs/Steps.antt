@@ -13,7 +13,9 @@ use Rattle.store.specs.Store.{Offered, offeredOf, offered, TableOffered, tableO
 use Rattle.service.specs.State.{belongs}
 use Rattle.service.specs.Answer.{untouched}
 use Rattle.service.specs.Reading.{armed, told, refused, readingOf}
-use Rattle.request.specs.Request.{wellFormed, peCoff, extendOnly, requestOf, offerIf, offerTableIf}
+use Rattle.request_checks.specs.Checks.{wellFormed}
+use Rattle.request_log.specs.Log.{offerIf, offerTableIf}
+use Rattle.request.specs.Request.{peCoff, extendOnly, requestOf}
 use Rattle.request.specs.Request as spec
 use Rattle.history.specs.History.{ask, reading, Panel, panelOf, step, Measure, measureOf, entryOf, isGood, arms}
 

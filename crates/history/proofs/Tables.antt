@@ -14,7 +14,8 @@ use Rattle.wire.proofs.Laws.{length-le}
 use Rattle.bank.specs.Bank.{banks}
 use Rattle.entry.specs.Entry.{agileBytes}
 use Rattle.store.specs.Store.{TableOffered, tableTaken, tableShut, tableOffered}
-use Rattle.request.specs.Request.{extendOnly, offerTableIf}
+use Rattle.request_log.specs.Log.{offerTableIf}
+use Rattle.request.specs.Request.{extendOnly}
 use Rattle.request.specs.Request as spec
 use Rattle.history.specs.History.{Call, ask, reading, Panel, step, run, Measure, measureOf, entryOf, isGood, arms, keepIf, tabled, fitting, cutOff, allBytes}
 use Rattle.history.proofs.Stores.{sets-is, length-sets, table-closed, table-taken, table-shut}

@@ -13,10 +13,10 @@ use Rattle.entry.specs.Entry.{logLimit}
 use Rattle.entry.specs.Header.{find}
 use Rattle.replay.specs.Replay.{SliceOutcome, beginOf, sliceOf}
 use Rattle.replay.specs.declared.Replay.{Replay}
-use Rattle.replay.specs.Walk.{Stop, fine, refused}
+use Rattle.replay_walk.specs.Walk.{Stop, fine, refused}
 use Rattle.replay.proofs.Replays.{walks, walk-number, exactly-0, exactly-walk}
 use Rattle.replay.proofs.Slices.{refused-offset, begun-passes}
-use Rattle.printed.specs.Lines.{refusedLine}
+use Rattle.printed_lines.specs.Lines.{refusedLine}
 use Rattle.printed.specs.Printed.{replayed, sliced, began, output}
 use Rattle.printed.proofs.Whole.{whole-log}
 

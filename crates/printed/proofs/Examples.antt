@@ -11,9 +11,10 @@ use Rattle.entry.specs.Entry.{logLimit, readAgile}
 use Rattle.entry.specs.Read.{test}
 use Rattle.entry.specs.Form.{agile}
 use Rattle.entry.specs.Header.{find, starts, headerBytes, headerFront, headerTitle, specId, sizeBytes, headerLength}
-use Rattle.replay.specs.Walk.{walk}
-use Rattle.replay.specs.Replay.{fresh, beginOf, isGiven, formOf, sliceOf}
-use Rattle.printed.specs.Lines.{digits, numbered, refusedWord, atWord, refusedLine, entriesWord, entriesLine, name, twoDigits, lineHead, registerLine, linesFirst, banksLines}
+use Rattle.replay_walk.specs.Walk.{walk}
+use Rattle.replay_walk.specs.Taken.{formOf}
+use Rattle.replay.specs.Replay.{fresh, beginOf, isGiven, sliceOf}
+use Rattle.printed_lines.specs.Lines.{digits, numbered, refusedWord, atWord, refusedLine, entriesWord, entriesLine, name, twoDigits, lineHead, registerLine, linesFirst, banksLines}
 use Rattle.printed.specs.Printed.{replayed, sliced, began, output}
 
 -- ---- the header alone

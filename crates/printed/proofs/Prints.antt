@@ -19,11 +19,12 @@ use Rattle.replay.specs.declared.Stop.the-variants.{Fine, Refused}
 use Rattle.replay.specs.declared.Replay.{Replay}
 use Rattle.replay.specs.declared.Begun.{Begun}
 use Rattle.replay.specs.declared.Slice.{Slice}
-use Rattle.replay.specs.Walk.{Stop, fine, refused, Walk, more, onRead, walk}
-use Rattle.replay.specs.Replay.{number, beginOutcome, beginOf, isGiven, formOf, takes, walkFrom, placeOf, sliceOutcome, held, movedOn, sliceEnd, sliceFrom, sliceOf}
-use Rattle.printed.specs.Lines.{refusedLine, entriesLine, banksLines}
+use Rattle.replay_walk.specs.Walk.{Stop, fine, refused, Walk, more, onRead, walk}
+use Rattle.replay_walk.specs.Taken.{formOf, takes, walkFrom, placeOf}
+use Rattle.replay.specs.Replay.{number, beginOutcome, beginOf, isGiven, sliceOutcome, held, movedOn, sliceEnd, sliceFrom, sliceOf}
+use Rattle.printed_lines.specs.Lines.{refusedLine, entriesLine, banksLines}
 use Rattle.printed.specs.Printed.{replayed, sliced, began, output, outputLimit, Outcome, outcome, printedOf}
-use Rattle.printed.proofs.Lengths.{length-refused, length-entries, length-banks}
+use Rattle.printed_lines.proofs.Lengths.{length-refused, length-entries, length-banks}
 
 -- ---- what a slice and a beginning come to
 

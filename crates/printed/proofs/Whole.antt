@@ -7,10 +7,11 @@ use native.Mathlib.Omega.{arith}
 use lib.ListN.{length, drop, length-drop}
 use Rattle.entry.specs.Read.{Read, got, bad}
 use Rattle.replay.specs.declared.Replay.{Replay}
-use Rattle.replay.specs.Walk.{fine, Walk, more, onRead, walk}
-use Rattle.replay.specs.Replay.{formOf, takes, placeOf, sliceOf}
-use Rattle.replay.proofs.Walks.{Eats}
-use Rattle.replay.proofs.Sizes.{eats-less, form-eats}
+use Rattle.replay_walk.specs.Walk.{fine, Walk, more, onRead, walk}
+use Rattle.replay_walk.specs.Taken.{formOf, takes, placeOf}
+use Rattle.replay.specs.Replay.{sliceOf}
+use Rattle.replay_walk.proofs.Walks.{Eats}
+use Rattle.replay_walk.proofs.Sizes.{eats-less, form-eats}
 use Rattle.replay.proofs.Replays.{walks, exactly-0}
 use Rattle.replay.proofs.Slices.{slice-replay, done-place}
 

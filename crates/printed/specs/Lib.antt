@@ -1,4 +1,1 @@
--- the lines
-pub mod Lines
--- the whole output
 pub mod Printed

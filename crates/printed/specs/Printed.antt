@@ -7,7 +7,7 @@ use lib.ListN.{length}
 use lib.Seq.{sets}
 use Rattle.bank.specs.Bank.{banks}
 use Rattle.replay.specs.Replay.{BeginOutcome, beginOf, SliceOutcome, sliceOf}
-use Rattle.printed.specs.Lines.{refusedLine, entriesLine, banksLines}
+use Rattle.printed_lines.specs.Lines.{refusedLine, entriesLine, banksLines}
 
 -- 01: "`entries N`, then for each bank, for registers 00 to 23, a line"
 unfoldable pub replayed : ℕ → ℕ → List ℕ → List ℕ

@@ -21,7 +21,9 @@ use Rattle.store.specs.Store.{countLimit, offered, tableOffered}
 use Rattle.service.specs.Opening.{fresh, tableFront, inLimits, roomy, openingOf}
 use Rattle.service.specs.State.{belongs}
 use Rattle.service.specs.Reading.{readingOf}
-use Rattle.request.specs.Request.{dataLimit, fieldsGood, wellFormed, lacking, accepted, requestOf}
+use Rattle.request_checks.specs.Checks.{dataLimit, fieldsGood, wellFormed}
+use Rattle.request_log.specs.Log.{lacking}
+use Rattle.request.specs.Request.{accepted, requestOf}
 use Rattle.request.specs.Request as request
 use Rattle.history.specs.History.{statusOf, step, opening}
 use Rattle.sheet.specs.Sheet.{before, status, told, armed, logged, used, extended, fourZeros, p1, p1Entry, p1Sha1, p1Sha256, toRegister, ofSize, fox}

@@ -1,0 +1,2 @@
+-- what reading a whole input answers
+pub mod Input

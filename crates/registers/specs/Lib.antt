@@ -1,2 +1,2 @@
--- what reading a whole input answers
-pub mod Input
+-- what reading an input answers
+pub mod Read

@@ -3,16 +3,17 @@ use libc::EINTR;
 use libc::STDERR_FILENO;
 use libc::STDIN_FILENO;
 use libc::STDOUT_FILENO;
+ghost use mathlib.Core.Path.{_≡_};
 ghost use lib.ListN.{length};
 ghost use Rattle.libc.specs.Io.{Moved};
-ghost use Rattle.registers.specs.Input.{Filled};
+ghost use Rattle.registers.specs.Read.{answered, Within};
 
 // The bytes of the longest log, and one more: a longer log is refused without its rest.
 const INPUT: usize = 65537;
 
-// What reading an input comes to: it was read to its end or to the buffer's, so many bytes, or a read failed.
-enum Input {
-    Whole(usize),
+// What reading comes to: so many bytes, or a read failed.
+enum Read {
+    Bytes(usize),
     Failed,
 }
 
@@ -38,23 +39,34 @@ fn read_some(fd: i32, buf: &mut [u8]) -> isize
     got
 }
 
+// What a read that answered got has put into part.
+fn answer(got: isize, part: &[u8]) -> Read
+    ensures { λ r. ⌜ r ≡ answered got (length (now (part .entry))) ⌝ }
+    ensures { λ r. ⌜ Within r (now (part .entry)) ⌝ }
+{
+    if got < 0 {
+        return Read::Failed;
+    }
+    Read::Bytes(io::count(got, part))
+}
+
 // Reads until buf is full or the input ends. A read that fails fails the whole.
-fn fill(fd: i32, buf: &mut [u8]) -> Input
-    ensures { λ r. ⌜ Filled r (now (buf .exit)) ⌝ }
+fn fill(fd: i32, buf: &mut [u8]) -> Read
+    ensures { λ r. ⌜ Within r (now (buf .exit)) ⌝ }
 {
     let mut done: usize = 0;
     while done < buf.len() {
         let got = read_some(fd, &mut buf[done..]);
-        if got < 0 {
-            return Input::Failed;
-        }
-        let n = io::count(got, &buf[done..]);
+        let read = answer(got, &buf[done..]);
+        let Read::Bytes(n) = read else {
+            return Read::Failed;
+        };
         if n == 0 {
             break;
         }
         done += n;
     }
-    Input::Whole(done)
+    Read::Bytes(done)
 }
 
 // Prints what a log comes to.
@@ -73,8 +85,8 @@ fn main() {
     let mut log = [0u8; INPUT];
     let input = fill(STDIN_FILENO, &mut log);
     match input {
-        Input::Whole(n) => show(&log[..n]),
-        Input::Failed => {
+        Read::Bytes(n) => show(&log[..n]),
+        Read::Failed => {
             io::write_all(
                 STDERR_FILENO,
                 b"registers: standard input couldn't be read to its end: nothing is printed\n",

@@ -1,5 +1,6 @@
 -- `registers::fill` meets its contract. The invariant: the bytes read lie within the buffer, which keeps its length. The measure is what is left to fill.
 -- Assumes nothing.
+use Rattle.registers.proofs.Laws.{within}
 use mathlib.Core.Path.{_≡_}
 use Prim.Native.Nat.{_≤_, _-_}
 use lib.ListN.{length}
@@ -28,32 +29,38 @@ part-read-some-end c = search needs
 read-some-requires : tie.Need-read-some-requires Inv-loop μ-loop
 read-some-requires c κs = search needs
 
+sub-answer : tie.Need-sub-answer Inv-loop μ-loop
+sub-answer c = search needs
+
+part-answer-start : tie.Need-part-answer-start Inv-loop μ-loop
+part-answer-start c = search needs
+
+part-answer-end : tie.Need-part-answer-end Inv-loop μ-loop
+part-answer-end c = search needs
+
+answer-requires : tie.Need-answer-requires Inv-loop μ-loop
+answer-requires c κs = search needs
+
+enum-known-read : tie.Need-enum-known-read Inv-loop μ-loop
+enum-known-read c = search needs
+
+enum-told : tie.Need-enum-told Inv-loop μ-loop
+enum-told c = search needs
+
 same-length : tie.Need-same-length Inv-loop μ-loop
 same-length c = search needs
 
 returns : tie.Need-returns Inv-loop μ-loop
 returns c = search needs
 
-sub-count : tie.Need-sub-count Inv-loop μ-loop
-sub-count c = search needs
-
-part-count-start : tie.Need-part-count-start Inv-loop μ-loop
-part-count-start c = search needs
-
-part-count-end : tie.Need-part-count-end Inv-loop μ-loop
-part-count-end c = search needs
-
-count-requires : tie.Need-count-requires Inv-loop μ-loop
-count-requires c κs = search needs
-
 add-done : tie.Need-add-done Inv-loop μ-loop
-add-done c = search needs
+add-done c = search (needs, within _ _ _ (c .before .before .read .given .1) (c .before .before .before .before .answer .ensures .1))
 
 loop-less : tie.Need-loop-less Inv-loop μ-loop
 loop-less c = search needs
 
 loop-again : tie.Need-loop-again Inv-loop μ-loop
-loop-again c = search needs
+loop-again c = search (needs, within _ _ _ (c .before .before .read .given .1) (c .before .before .before .before .answer .ensures .1))
 
 same-length-2 : tie.Need-same-length-2 Inv-loop μ-loop
 same-length-2 c = search needs
@@ -78,12 +85,14 @@ fill-spec =
     part-read-some-start
     part-read-some-end
     read-some-requires
+    sub-answer
+    part-answer-start
+    part-answer-end
+    answer-requires
+    enum-known-read
+    enum-told
     same-length
     returns
-    sub-count
-    part-count-start
-    part-count-end
-    count-requires
     add-done
     loop-less
     loop-again

@@ -1,19 +1,10 @@
 -- `registers::main` meets its contract: what was read whole lies in its buffer. Assumes nothing.
-use Prim.Native.Nat.{ℕ, _≤_}
-use lib.ListN.{length}
 use lib.Seq.{length-take-le}
-use mathlib.Core.List.{List}
-use mathlib.Core.Path.{_≡_, sym, subst}
-use Rattle.registers.specs.Input.{Filled}
-use Rattle.registers.specs.declared.Input.{Input}
-use Rattle.registers.specs.declared.Input.the-variants.{Whole}
+use mathlib.Core.Path.{sym}
+use Rattle.registers.proofs.Laws.{within}
 use borrow.Author.Needs.{needs}
 use Rattle.registers.proofs.main.Statement.{statement}
 use Rattle.registers.proofs.main.Tie as tie
-
--- an input that was read whole is counted within the buffer
-whole : (i : Input) (n : ℕ) (buf : List ℕ) → i ≡ Whole n → Filled i buf → n ≤ length buf
-whole i n buf e f = subst (λ (j : Input). Filled j buf) e f
 
 slice-aggregate-fill : tie.Need-slice-aggregate-fill
 slice-aggregate-fill c = search needs
@@ -25,10 +16,10 @@ enum-known-input : tie.Need-enum-known-input
 enum-known-input c = search needs
 
 array-share-prefix-log : tie.Need-array-share-prefix-log
-array-share-prefix-log c = whole _ _ _ (c .before .input .given .1) (c .before .before .before .before .fill .ensures)
+array-share-prefix-log c = within _ _ _ (c .before .input .given .1) (c .before .before .before .before .fill .ensures)
 
 slice-aggregate-show : tie.Need-slice-aggregate-show
-slice-aggregate-show c = sym (length-take-le _ _ (whole _ _ _ (c .before .before .input .given .1) (c .before .before .before .before .before .fill .ensures)))
+slice-aggregate-show c = sym (length-take-le _ _ (within _ _ _ (c .before .before .input .given .1) (c .before .before .before .before .before .fill .ensures)))
 
 show-requires : tie.Need-show-requires
 show-requires c κs = search needs

@@ -1,34 +1,34 @@
--- `registers::main` meets its contract: what `print` wrote ends in its buffer. Assumes nothing.
-use Rattle.printed.proofs.Prints.{written-fits}
+-- `registers::main` meets its contract: what was read whole lies in its buffer. Assumes nothing.
 use lib.Seq.{length-take-le}
 use mathlib.Core.Path.{sym}
+use Rattle.registers.proofs.Laws.{within}
 use borrow.Author.Needs.{needs}
 use Rattle.registers.proofs.main.Statement.{statement}
 use Rattle.registers.proofs.main.Tie as tie
 
-slice-aggregate-read-full : tie.Need-slice-aggregate-read-full
-slice-aggregate-read-full c = search needs
+slice-aggregate-fill : tie.Need-slice-aggregate-fill
+slice-aggregate-fill c = search needs
 
-read-full-requires : tie.Need-read-full-requires
-read-full-requires c κs = search needs
+fill-requires : tie.Need-fill-requires
+fill-requires c κs = search needs
+
+enum-known-input : tie.Need-enum-known-input
+enum-known-input c = search needs
 
 array-share-prefix-log : tie.Need-array-share-prefix-log
-array-share-prefix-log c = search needs
+array-share-prefix-log c = within _ _ _ (c .before .input .given .1) (c .before .before .before .before .fill .ensures)
 
-slice-aggregate-print : tie.Need-slice-aggregate-print
-slice-aggregate-print c = search needs
+slice-aggregate-show : tie.Need-slice-aggregate-show
+slice-aggregate-show c = sym (length-take-le _ _ (within _ _ _ (c .before .before .input .given .1) (c .before .before .before .before .before .fill .ensures)))
 
-slice-aggregate-print-2 : tie.Need-slice-aggregate-print-2
-slice-aggregate-print-2 c = search needs
+show-requires : tie.Need-show-requires
+show-requires c κs = search needs
 
-print-requires : tie.Need-print-requires
-print-requires c κs = search needs
-
-array-share-prefix-out : tie.Need-array-share-prefix-out
-array-share-prefix-out c = written-fits _ _ (c .before .print .ensures)
+enum-told : tie.Need-enum-told
+enum-told c = search needs
 
 slice-aggregate-write-all : tie.Need-slice-aggregate-write-all
-slice-aggregate-write-all c = sym (length-take-le _ _ (written-fits _ _ (c .before .before .print .ensures)))
+slice-aggregate-write-all c = search needs
 
 write-all-requires : tie.Need-write-all-requires
 write-all-requires c κs = search needs
@@ -36,17 +36,21 @@ write-all-requires c κs = search needs
 returns : tie.Need-returns
 returns c = search needs
 
+returns-2 : tie.Need-returns-2
+returns-2 c = search needs
+
 pub main-spec : {M : Type 1} → statement M
 main-spec =
     tie.close
     (tie.spec
-    slice-aggregate-read-full
-    read-full-requires
+    slice-aggregate-fill
+    fill-requires
+    enum-known-input
     array-share-prefix-log
-    slice-aggregate-print
-    slice-aggregate-print-2
-    print-requires
-    array-share-prefix-out
+    slice-aggregate-show
+    show-requires
+    enum-told
     slice-aggregate-write-all
     write-all-requires
-    returns)
+    returns
+    returns-2)

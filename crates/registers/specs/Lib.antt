@@ -1,0 +1,2 @@
+-- what reading an input answers
+pub mod Read

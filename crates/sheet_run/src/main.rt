@@ -1,5 +1,5 @@
-// Prints what every row of document 01's sheet leaves, what 001's request leaves, a short story and three refused openings. second/ gives the
-// same list from the papers.
+// Prints what 001's request leaves, a short story and three refused openings. second/ gives the same list from the papers; P1 to P12 are proved in
+// `sheet`.
 // A request's or an opening's line: its name, the status, the used lengths of the 1.2 log, the agile log and the table, whether the two logs are
 // closed, whether the table is armed and an 11 was given, the bytes of the three buffers, and the SHA-256 digest of all registers. A reading's
 // line: its name, the status, the used length, the last entry, whether the log is closed, and whether the table is armed.
@@ -14,10 +14,8 @@ ghost use lib.ListN.{length};
 ghost use Rattle.wire.specs.Bytes.{Put, Room};
 ghost use Rattle.sheet_run.specs.Request.{sizesOf, requestOf};
 
-// The flags of a request.
+// The flag of a request that extends and logs nothing.
 const EXTEND_ONLY: u64 = 1;
-
-const PE_COFF: u64 = 16;
 
 // 001's request: the data, and the event.
 const FOX: [u8; 43] = *b"The quick brown fox jumps over the lazy dog";
@@ -30,18 +28,6 @@ struct Asked {
     size: u64,
     register: u64,
     kind: u64,
-}
-
-// P1 with other flags, another size and another register.
-fn as_p1(flags: u64, size: u64, register: u64) -> Asked
-    ensures { λ r. ⌜ r ≡ record { flags = flags; size = size; register = register; kind = 4 } ⌝ }
-{
-    Asked {
-        flags: flags,
-        size: size,
-        register: register,
-        kind: 4,
-    }
 }
 
 // 001's request with other flags.
@@ -202,61 +188,6 @@ fn ask_and_read(
     read(t, 2, old, agile, table);
 }
 
-// The agile buffer is the first n bytes.
-fn ask_in(
-    name: &[u8],
-    n: usize,
-    a: Asked,
-    message: &[u8],
-    event: &[u8],
-    old: &mut [u8],
-    agile: &mut [u8],
-    table: &mut [u8],
-)
-    requires { ⌜ (n ≤ length (now agile)) × (length (now event) ≤ 18) × (length (now old) ≤ 300) × (length (now agile) ≤ 300) × (length (now table) ≤ 300) ⌝ }
-{
-    ask_and_read(name, 3, a, message, event, old, &mut agile[..n], table);
-}
-
-// A row that asks, with an agile buffer of n bytes. Every byte is 165 before opening.
-fn ask_row(name: &[u8], n: usize, a: Asked, message: &[u8], event: &[u8])
-    requires { ⌜ (n ≤ 200) × (length (now event) ≤ 18) ⌝ }
-{
-    let mut old = [165u8; 100];
-    let mut agile = [165u8; 200];
-    let mut table = [165u8; 100];
-    ask_in(name, n, a, message, event, &mut old, &mut agile, &mut table);
-}
-
-// A row that reads.
-fn read_row(name: &[u8], format: u32) {
-    let mut old = [165u8; 100];
-    let mut agile = [165u8; 200];
-    let mut table = [165u8; 100];
-    let o = service::open(3, &mut old, &mut agile, &mut table);
-    let s = o.state;
-    print_text(name);
-    read(s, format, &old, &agile, &table);
-}
-
-// P1 to P12.
-fn print_rows() {
-    let zeros = [0u8; 4];
-    let fox = FOX;
-    ask_row(b"p1", 200, as_p1(0, 22, 2), &zeros, &zeros);
-    read_row(b"p2", 2);
-    read_row(b"p3", 1);
-    ask_row(b"p4", 200, as_p1(0, 22, 23), &zeros, &zeros);
-    ask_row(b"p5", 200, as_p1(0, 22, 24), &zeros, &zeros);
-    ask_row(b"p6", 200, as_p1(0, 17, 2), &zeros, b"");
-    ask_row(b"p7", 200, as_p1(0, 18, 2), &zeros, b"");
-    ask_row(b"p8", 145, as_p1(0, 22, 2), &zeros, &zeros);
-    ask_row(b"p9", 144, as_p1(0, 22, 2), &zeros, &zeros);
-    ask_row(b"p10", 200, as_p1(PE_COFF, 22, 2), &fox, &zeros);
-    ask_row(b"p11", 200, as_p1(PE_COFF, 22, 24), &fox, &zeros);
-    read_row(b"p12", 3);
-}
-
 // 001's request, with buffers of 300 bytes.
 fn fox_row(name: &[u8], bitmap: u32, flags: u64) {
     let mut old = [165u8; 300];
@@ -377,7 +308,6 @@ fn open_row(name: &[u8], bitmap: u32, n: usize, k: usize)
 }
 
 fn main() {
-    print_rows();
     print_fox();
     print_story();
     open_row(b"open-bitmap-0", 0, 200, 100);

@@ -1,29 +1,16 @@
-//! Prints what the rows of document 01's sheet leave, what 001's request
-//! leaves, a short story and three refused openings.
+//! Prints what 001's request leaves, a short story and three refused openings.
 
 mod panel;
 
 use lists::{print, Out};
 use model::bank::{ALL, SHA1, SHA256};
 use model::messages::FOX;
-use model::service::{EXTEND_ONLY, PE_COFF};
+use model::service::EXTEND_ONLY;
 use panel::{Panel, Request};
 use std::io;
 
-/// The banks of 01's rows.
+/// The banks of the story.
 const BOTH: u32 = SHA1 | SHA256;
-
-/// P1's data and event.
-const ZEROS: &[u8] = &[0; 4];
-
-const P1: Request = Request {
-    flags: 0,
-    size: 22,
-    register: 2,
-    kind: 4,
-    event: ZEROS,
-    data: ZEROS,
-};
 
 /// 001's request.
 const FOX_REQUEST: Request = Request {
@@ -40,66 +27,16 @@ fn main() -> io::Result<()> {
 }
 
 fn print_all(out: &mut Out) -> io::Result<()> {
-    print_rows(out)?;
     print_fox(out, "fox", 0)?;
     print_fox(out, "extend", EXTEND_ONLY)?;
     print_story(out)?;
     print_refused(out)
 }
 
-/// P1 to P12.
-fn print_rows(out: &mut Out) -> io::Result<()> {
-    ask(out, "p1", 200, P1)?;
-    read(out, "p2", 2)?;
-    read(out, "p3", 1)?;
-    ask(out, "p4", 200, Request { register: 23, ..P1 })?;
-    ask(out, "p5", 200, Request { register: 24, ..P1 })?;
-    ask(out, "p6", 200, without_event(17))?;
-    ask(out, "p7", 200, without_event(18))?;
-    ask(out, "p8", 145, P1)?;
-    ask(out, "p9", 144, P1)?;
-    let image = Request {
-        flags: PE_COFF,
-        data: FOX,
-        ..P1
-    };
-    ask(out, "p10", 200, image)?;
-    ask(
-        out,
-        "p11",
-        200,
-        Request {
-            register: 24,
-            ..image
-        },
-    )?;
-    read(out, "p12", 3)
-}
-
-/// P1 with no event, and a size.
-fn without_event(size: u32) -> Request<'static> {
-    Request {
-        size,
-        event: b"",
-        ..P1
-    }
-}
-
-/// A row that asks: the request, and a reading of the agile log behind it.
-fn ask(out: &mut Out, name: &str, agile: usize, request: Request) -> io::Result<()> {
-    let (_, panel) = Panel::open(BOTH, 100, agile, 100);
-    ask_and_read(out, name, panel, request)
-}
-
+/// The request, and a reading of the agile log behind it.
 fn ask_and_read(out: &mut Out, name: &str, mut panel: Panel, request: Request) -> io::Result<()> {
     panel.ask(out, name, request)?;
     panel.read(out, &format!("{name}-log"), 2)
-}
-
-/// A row that reads.
-fn read(out: &mut Out, name: &str, format: u32) -> io::Result<()> {
-    let (_, mut panel) = Panel::open(BOTH, 100, 200, 100);
-    panel.read(out, name, format)
 }
 
 /// 001's request for each bitmap.

@@ -1,5 +1,7 @@
 // The banks of document 01, the registers of every bank, and what extending does to them. Only this crate knows which banks there are and where
 // their registers and digests stand; the crates above go by a bank's row in the table.
+#![tactic(auto)]
+
 ghost use Rattle.std.specs.Prelude.{◌≡◌, ◌<◌, ◌≤◌, length};
 ghost use Rattle.std.proofs.lemmas.List.Edits.{sets};
 ghost use Rattle.wire.specs.Bytes.{Put, Room};

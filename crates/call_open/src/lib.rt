@@ -1,4 +1,6 @@
 // The panel's part opened, its state written into lent bytes.
+#![tactic(auto)]
+
 ghost use Rattle.std.specs.Prelude.{◌≡◌};
 ghost use Rattle.call_state.specs.Calls.{call_outcome};
 ghost use Rattle.call_open.specs.OpenCall.{open_call};

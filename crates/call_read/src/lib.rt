@@ -1,4 +1,6 @@
 // GetEventLog over a state in lent bytes, told in an answer record.
+#![tactic(auto)]
+
 ghost use Rattle.std.specs.Prelude.{◌≡◌, length};
 ghost use Rattle.call_read.specs.ReadCall.{read_call_outcome, filled, nothing, read_call};
 

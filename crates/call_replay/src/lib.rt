@@ -1,4 +1,6 @@
 // A replay in lent bytes begun and taken on. Replay's numbers stand as they are.
+#![tactic(auto)]
+
 ghost use Rattle.std.specs.Prelude.{◌≡◌, length};
 ghost use Rattle.placed.specs.Placed.{replay_length};
 ghost use Rattle.call_replay.specs.Replays.{begin_call_outcome, begin_call, carried_if, slice_call_outcome, slice_call};

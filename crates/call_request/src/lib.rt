@@ -1,4 +1,6 @@
 // HashLogExtendEvent over a state in lent bytes.
+#![tactic(auto)]
+
 ghost use Rattle.std.specs.Prelude.{◌≡◌};
 ghost use Rattle.call_state.specs.Calls.{call_outcome};
 ghost use Rattle.call_request.specs.RequestCall.{request_call};

@@ -1,4 +1,6 @@
 // What the calls over a state in lent bytes share: a status on the wire, and a changed state written back.
+#![tactic(auto)]
+
 ghost use Rattle.std.specs.Prelude.{◌≡◌, ◌≤◌, length};
 ghost use Rattle.layout.specs.Layout.{state_length};
 ghost use Rattle.digests.specs.Digests.{on_wire};

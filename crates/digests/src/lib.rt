@@ -1,4 +1,6 @@
 // Digests and extended registers in lent slices, each with a status on the wire.
+#![tactic(auto)]
+
 ghost use Rattle.std.specs.Prelude.{◌≡◌};
 ghost use Rattle.sha1_hash.specs.Sha1.{sha1};
 ghost use Rattle.sha256.specs.Sha256.{sha256};

@@ -1,4 +1,6 @@
 // Bytes as lower-case hexadecimal digits.
+#![tactic(auto)]
+
 ghost use Rattle.std.specs.Prelude.{◌≡◌, ◌<◌};
 ghost use Rattle.wire.specs.Bytes.{Put, Room};
 ghost use Rattle.hex_digits.specs.Hex.{digit_of, hex_of};

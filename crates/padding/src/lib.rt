@@ -1,4 +1,6 @@
 // What the hashes of FIPS 180-4 share: words of 32 bits and their bytes, and the last blocks of a message.
+#![tactic(auto)]
+
 ghost use Rattle.std.specs.Prelude.{◌≡◌, ◌+◌, ◌*◌, ◌<◌, ◌≤◌, ◌++◌, length};
 ghost use Rattle.std.proofs.lemmas.List.Edits.{sets};
 ghost use Rattle.wire.specs.Bytes.{Put, Room};

@@ -1,4 +1,6 @@
 // The calls that the washer's firmware links. A slice is a pointer and a length in C.
+#![tactic(auto)]
+
 ghost use Rattle.std.specs.Prelude.{◌≡◌, length};
 ghost use Rattle.sha1_hash.specs.Sha1.{sha1};
 ghost use Rattle.sha256.specs.Sha256.{sha256};

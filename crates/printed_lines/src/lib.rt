@@ -1,4 +1,6 @@
 // The lines that the program prints for a log (document 01, Program), written into a lent buffer.
+#![tactic(auto)]
+
 ghost use Rattle.std.specs.Prelude.{◌≡◌, ◌≤◌, ◌<◌, length};
 ghost use Rattle.wire.specs.Bytes.{Put, Room};
 ghost use Rattle.bank.specs.Bank.{rows, bank_at, banks};

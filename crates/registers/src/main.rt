@@ -1,4 +1,6 @@
 // Reads a log of format 2 from standard input and prints its registers, or why it is refused (document 01, Program).
+#![tactic(auto)]
+
 ghost use Rattle.std.specs.Prelude.{◌≡◌, length};
 ghost use Rattle.libc.specs.Io.{Moved};
 ghost use Rattle.registers.specs.Read.{answered, Within};

@@ -1,4 +1,6 @@
 // The checks of a request's bytes (document 01, A request): none of its reasons for 2.
+#![tactic(auto)]
+
 ghost use Rattle.std.specs.Prelude.{◌≡◌, ◌≤◌, length};
 ghost use Rattle.request_checks.specs.Checks.{fields_good, well_formed};
 

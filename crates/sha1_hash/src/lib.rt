@@ -1,4 +1,6 @@
 // SHA-1 (FIPS 180-4, 6.1) of any lent slice, and of a register and a digest where they lie.
+#![tactic(auto)]
+
 ghost use Rattle.std.specs.Prelude.{◌≡◌, ◌++◌, ◌+◌, ◌%◌, ◌<◌, ◌≤◌, length, take, set};
 ghost use Rattle.std.specs.Int.Bits.{bit_xor};
 ghost use Rattle.std.proofs.lemmas.List.Edits.{sets};

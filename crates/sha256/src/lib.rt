@@ -1,4 +1,6 @@
 // SHA-256 (FIPS 180-4, 6.2) of any lent slice, and of a register and a digest where they lie.
+#![tactic(auto)]
+
 ghost use Rattle.std.specs.Prelude.{◌≡◌, ◌++◌, ◌+◌, ◌%◌, ◌<◌, length, take, set};
 ghost use Rattle.wire.specs.Bytes.{Put, Room};
 ghost use Rattle.padding.specs.Words.{plus, words};

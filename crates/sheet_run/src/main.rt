@@ -3,6 +3,8 @@
 // A request's or an opening's line: its name, the status, the used lengths of the 1.2 log, the agile log and the table, whether the two logs are
 // closed, whether the table is armed and an 11 was given, the bytes of the three buffers, and the SHA-256 digest of all registers. A reading's
 // line: its name, the status, the used length, the last entry, whether the log is closed, and whether the table is armed.
+#![tactic(auto)]
+
 ghost use Rattle.std.specs.Prelude.{◌≡◌, ◌≤◌, length};
 ghost use Rattle.wire.specs.Bytes.{Put, Room};
 ghost use Rattle.sheet_run.specs.Request.{sizes_of, request_of};

@@ -1,5 +1,7 @@
 // Prints the digests of FIPS 180-4's examples, of document 01's two messages, and of a patterned message of every length from 0 to 300.
 // second/ and sha1sum and sha256sum give the same list.
+#![tactic(auto)]
+
 ghost use Rattle.std.specs.Prelude.{◌≡◌, ◌≤◌, length};
 ghost use Rattle.std.proofs.lemmas.List.Edits.{sets};
 ghost use Rattle.wire.specs.Bytes.{Put, Room};

@@ -1,4 +1,6 @@
 // What tells a C header and an archive of different layouts apart.
+#![tactic(auto)]
+
 ghost use Rattle.std.specs.Prelude.{◌≡◌};
 ghost use Rattle.version.specs.Version.{version};
 

@@ -1,5 +1,7 @@
 // Numbers and runs of bytes at a place of a lent slice. Numbers are little-endian throughout (document 01, Banks), and one function a
 // direction serves every width.
+#![tactic(auto)]
+
 ghost use Rattle.std.specs.Prelude.{◌≡◌, ◌+◌, ◌≤◌, ◌<◌, ◌^◌, length, replicate};
 ghost use Rattle.wire.specs.Bytes.{le, num, part, Put, Room};
 

@@ -9,7 +9,7 @@ ghost use Rattle.bank.specs.Bank.{reset_byte, rows, bank_at, active, valid, bank
 ghost use Rattle.bank.specs.Registers.{digests_length, registers_length, extend_all, reset_first, reset_all, digest_in, digests_in, hash_all};
 ghost use Rattle.bank.specs.Registers as spec;
 
-#[derive(Drop)]
+#[derive(Clone, Copy)]
 pub struct Sha1Bank;
 
 impl Sha1Bank {
@@ -27,7 +27,7 @@ impl Sha1Bank {
     }
 }
 
-#[derive(Drop)]
+#[derive(Clone, Copy)]
 pub struct Sha256Bank;
 
 impl Sha256Bank {
@@ -56,7 +56,7 @@ pub const DIGESTS: usize = Sha1Bank::LEN + Sha256Bank::LEN;
 pub const REGISTERS: usize = 24 * DIGESTS;
 
 // The registers of every bank, active or not.
-#[derive(Drop)]
+#[derive(Clone, Copy)]
 pub struct Registers {
     pub bytes: [u8; REGISTERS],
 }

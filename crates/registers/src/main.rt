@@ -11,7 +11,7 @@ use libc::{EINTR, STDERR_FILENO, STDIN_FILENO, STDOUT_FILENO};
 const INPUT: usize = 65537;
 
 // What reading comes to: so many bytes, or a read failed.
-#[derive(Drop)]
+#[derive(Clone, Copy)]
 enum Read {
     Bytes(usize),
     Failed,

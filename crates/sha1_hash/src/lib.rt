@@ -16,7 +16,7 @@ const PADDED: [u8; 24] = [
 ];
 
 // A hash value, and the working variables of a round.
-#[derive(Drop)]
+#[derive(Clone, Copy)]
 pub struct State {
     pub a: u32,
     pub b: u32,

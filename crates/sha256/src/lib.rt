@@ -33,7 +33,7 @@ const PADDED: [u32; 64] = [
 ];
 
 // A hash value, and the working variables of a round.
-#[derive(Drop)]
+#[derive(Clone, Copy)]
 pub struct State {
     pub a: u32,
     pub b: u32,

@@ -22,7 +22,7 @@ const FOX: [u8; 43] = *b"The quick brown fox jumps over the lazy dog";
 const EVENT: [u8; 18] = *b"TCG2 Protocol Test";
 
 // A request's flags and the fields of its lent bytes. Its event and its data are lent beside it.
-#[derive(Drop)]
+#[derive(Clone, Copy)]
 struct Asked {
     flags: u64,
     size: u64,

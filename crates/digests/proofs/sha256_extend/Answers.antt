@@ -1,0 +1,14 @@
+-- `digests::sha256_extend` meets its contract. Assumes nothing.
+use Rattle.digests.proofs.Laws.{extend_made, extend_refused, lengths}
+use Rattle.sha256.specs.Sha256.{sha256}
+use Rattle.digests.proofs.sha256_extend.Goals as goal
+
+pub extend-requires : goal.extend-requires
+extend-requires c = lengths _ _ 32 c.if-register-digest.true
+
+pub returns-then-register-digest : goal.returns-then-register-digest
+returns-then-register-digest c =
+    extend_made sha256 32 c.args.register.now c.args.digest.now c.if-register-digest.true c.extend.ensures
+
+pub returns : goal.returns
+returns c = extend_refused sha256 32 c.args.register.now c.args.digest.now c.if-register-digest.false

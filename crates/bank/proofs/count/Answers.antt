@@ -21,8 +21,8 @@ loop-i-preserved c =
       search rules,
       elim c.if-is_active.branch [ then-is_active w ↦ omega arith | else-is_active w ↦ omega arith ],
       elim c.if-is_active.branch [
-        then-is_active w ↦ omega (arith, ap length (rest_on bitmap i h (sym c.is_active.ensures ∙ w.if-is_active.true)))
-      | else-is_active w ↦ omega (arith, ap length (rest_off bitmap i h (sym c.is_active.ensures ∙ w.if-is_active.false)))
+        | then-is_active w ↦ omega (arith, ap length (rest_on bitmap i h (sym c.is_active.ensures ∙ w.if-is_active.true)))
+        | else-is_active w ↦ omega (arith, ap length (rest_off bitmap i h (sym c.is_active.ensures ∙ w.if-is_active.false)))
       ],
     )
 

@@ -30,8 +30,8 @@ loop-i-preserved c =
     let h : i < rows = omega arith in (
       search rules,
       elim c.if-is_active.branch [
-        then-is_active w ↦ extend_on bitmap i _ _ _ _ _ _ h (sym c.is_active.ensures ∙ w.if-is_active.true) w.digest_of.ensures (w.registers-is ∙ w.extend.ensures) c.loop-i.invariant.1
-      | else-is_active w ↦ extend_off bitmap i _ _ _ _ _ h (sym c.is_active.ensures ∙ w.if-is_active.false) w.registers-is c.loop-i.invariant.1
+        | then-is_active w ↦ extend_on bitmap i _ _ _ _ _ _ h (sym c.is_active.ensures ∙ w.if-is_active.true) w.digest_of.ensures (w.registers-is ∙ w.extend.ensures) c.loop-i.invariant.1
+        | else-is_active w ↦ extend_off bitmap i _ _ _ _ _ h (sym c.is_active.ensures ∙ w.if-is_active.false) w.registers-is c.loop-i.invariant.1
       ],
     )
 

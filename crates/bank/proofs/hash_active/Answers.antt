@@ -22,8 +22,8 @@ loop-i-preserved c =
     let h : i < rows = omega arith in (
       search rules,
       elim c.if-is_active.branch [
-        then-is_active w ↦ hash_on bitmap i _ _ _ _ h (sym c.is_active.ensures ∙ w.if-is_active.true) (w.digests-is ∙ w.put_digest.ensures) c.loop-i.invariant.1
-      | else-is_active w ↦ hash_off bitmap i _ _ _ _ h (sym c.is_active.ensures ∙ w.if-is_active.false) w.digests-is c.loop-i.invariant.1
+        | then-is_active w ↦ hash_on bitmap i _ _ _ _ h (sym c.is_active.ensures ∙ w.if-is_active.true) (w.digests-is ∙ w.put_digest.ensures) c.loop-i.invariant.1
+        | else-is_active w ↦ hash_off bitmap i _ _ _ _ h (sym c.is_active.ensures ∙ w.if-is_active.false) w.digests-is c.loop-i.invariant.1
       ],
     )
 

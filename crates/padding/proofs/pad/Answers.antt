@@ -22,14 +22,13 @@ put_fill-c-requires c =
 
 pub put_length-requires : goal.put_length-requires
 unfolding ending
-put_length-requires c =
-    (
-      c.requires.0,
-      room_then _ _
-          (room_then (replicate 1 128) (replicate c.args.z 0 ++ bytes c.args.l (c.args.n * 8)) (room_then _ _ c.requires.1 c.put_bytes-a.ensures)
-          c.put_fill-b.ensures)
-          c.put_fill-c.ensures,
-    )
+put_length-requires c = (
+  c.requires.0,
+  room_then _ _
+      (room_then (replicate 1 128) (replicate c.args.z 0 ++ bytes c.args.l (c.args.n * 8)) (room_then _ _ c.requires.1 c.put_bytes-a.ensures)
+      c.put_fill-b.ensures)
+      c.put_fill-c.ensures,
+)
 
 pub returns : goal.returns
 unfolding ending

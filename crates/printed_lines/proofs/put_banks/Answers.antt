@@ -31,12 +31,12 @@ loop-i-preserved c =
     let h : i < rows = omega arith in (
       search rules,
       elim c.if-is_active.branch [
-        then-is_active w ↦ ap length w.d-is ∙ w.put_bank-p.auto.d ∙ l.1
-      | else-is_active w ↦ ap length w.d-is ∙ l.1
+        | then-is_active w ↦ ap length w.d-is ∙ w.put_bank-p.auto.d ∙ l.1
+        | else-is_active w ↦ ap length w.d-is ∙ l.1
       ],
       elim c.if-is_active.branch [
-        then-is_active w ↦ left_on (lines_first (bank_at i) 24 c.args.registers.now) _ (lines_on c.args.bitmap i c.args.registers.now h (sym c.is_active.ensures ∙ w.if-is_active.true)) l.2 w.put_bank-p.ensures w.d-is w.p-is
-      | else-is_active w ↦ left_off (lines_off c.args.bitmap i c.args.registers.now h (sym c.is_active.ensures ∙ w.if-is_active.false)) l.2 w.d-is w.p-is
+        | then-is_active w ↦ left_on (lines_first (bank_at i) 24 c.args.registers.now) _ (lines_on c.args.bitmap i c.args.registers.now h (sym c.is_active.ensures ∙ w.if-is_active.true)) l.2 w.put_bank-p.ensures w.d-is w.p-is
+        | else-is_active w ↦ left_off (lines_off c.args.bitmap i c.args.registers.now h (sym c.is_active.ensures ∙ w.if-is_active.false)) l.2 w.d-is w.p-is
       ],
     )
 

@@ -1,4 +1,3 @@
-use mathlib.Core.Logic.{⊎_elim}
 use mathlib.Core.Path.{sym, ap, ◌∙◌}
 use Prim.Native.Nat.{◌≤◌, ◌<◌}
 use native.Mathlib.Omega.{arith}

@@ -2,7 +2,7 @@
 use mathlib.Core.Path.{◌≡◌}
 use native.Mathlib.Omega.{arith}
 use Rattle.bank.specs.Bank.{bank_at, table}
-use Rattle.bank.proofs.Turns.{Register, register_end, length_register, extend_register}
+use Rattle.bank.proofs.Turns.{register_end, length_register, extend_register}
 use Rattle.bank.proofs.extend.Goals as goal
 
 pub overflow_add-e : goal.overflow_add-e

@@ -1,9 +1,6 @@
 -- `bank::put_digest` meets its contract: the arm's digest has room in its place. Assumes nothing.
 use mathlib.Core.Path.{◌≡◌}
-use mathlib.Core.List.{List}
-use Prim.Native.Nat.{ℕ}
 use native.Mathlib.Omega.{arith}
-use Rattle.wire.specs.Bytes.{Room}
 use Rattle.bank.specs.Bank.{bank_at, table}
 use Rattle.bank.proofs.Turns.{room_digest}
 use Rattle.bank.proofs.put_digest.Goals as goal

@@ -1,10 +1,8 @@
 -- `call_read::read_log` meets its contract. Assumes nothing.
 use Rattle.call_state.proofs.Laws.{number_small, length_of}
 use Rattle.call_read.proofs.Laws.{read_refused_lem, read_short, reads}
-use borrow.Author.Tests.{not-true, not-false}
 use mathlib.Core.Path.{sym, ◌∙◌}
 use lib.ListN.{length}
-use Rattle.call_read.proofs.read_log.Reads as reads
 use Rattle.call_read.proofs.read_log.Goals as goal
 
 pub returns-then-not-encodes : goal.returns-then-not-encodes

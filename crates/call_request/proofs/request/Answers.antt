@@ -1,7 +1,6 @@
 -- `call_request::request` meets its contract. Assumes nothing.
 use Rattle.call_state.proofs.Laws.{number_small, length_of}
 use Rattle.call_request.proofs.Laws.{request_refused, requests}
-use borrow.Author.Tests.{not-true, not-false}
 use mathlib.Core.Path.{sym, ◌∙◌}
 use Rattle.call_request.proofs.request.Goals as goal
 

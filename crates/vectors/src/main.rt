@@ -7,7 +7,7 @@ ghost use Rattle.std.proofs.lemmas.List.Edits.{sets};
 ghost use Rattle.wire.specs.Bytes.{Put, Room};
 ghost use Rattle.vectors.specs.Line.{head_of, line_of, pattern_of};
 
-use libc::STDOUT_FILENO;
+use std::io;
 
 fn put_head(d: &mut [u8], label: &[u8], name: &[u8]) -> usize
     requires { Room d.old 0 (head_of label.now name.now) }
@@ -28,21 +28,21 @@ fn put_line(d: &mut [u8], label: &[u8], name: &[u8], digest: &[u8]) -> usize
     wire::put_fill(d, b, 1, 10)
 }
 
-fn print_line(label: &[u8], name: &[u8], digest: &[u8])
+fn print_line(rt: &impl Print, label: &[u8], name: &[u8], digest: &[u8]) -> io::Result<()>
     requires { (length label.now ≤ 8) × (length name.now ≤ 8) × (length digest.now ≤ 32) }
 {
     let mut d = [0u8; 96];
     let n = put_line(&mut d, label, name, digest);
-    io::write_all(STDOUT_FILENO, &d[..n]);
+    rt.write_all(&d[..n])
 }
 
-fn print_both(name: &[u8], m: &[u8])
+fn print_both(rt: &impl Print, name: &[u8], m: &[u8]) -> io::Result<()>
     requires { length name.now ≤ 8 }
 {
     let a = sha1_hash::digest(m);
-    print_line(b"sha1", name, &a);
+    print_line(rt, b"sha1", name, &a)?;
     let b = sha256::digest(m);
-    print_line(b"sha256", name, &b);
+    print_line(rt, b"sha256", name, &b)
 }
 
 fn fill(m: &mut [u8], n: usize)
@@ -56,7 +56,7 @@ fn fill(m: &mut [u8], n: usize)
     }
 }
 
-fn print_pattern(n: usize)
+fn print_pattern(rt: &impl Print, n: usize) -> io::Result<()>
     requires { n ≤ 300 }
 {
     let mut m = [0u8; 300];
@@ -66,30 +66,33 @@ fn print_pattern(n: usize)
         (48 + n / 10 % 10) as u8,
         (48 + n % 10) as u8,
     ];
-    print_both(&name, &m[..n]);
+    print_both(rt, &name, &m[..n])
 }
 
-fn print_patterns() {
+fn print_patterns(rt: &impl Print) -> io::Result<()> {
     let mut n: usize = 0;
     while n <= 300 {
-        print_pattern(n);
+        print_pattern(rt, n)?;
         n += 1;
     }
+    Ok(())
 }
 
-fn main() {
+fn main(rt: HostRuntime) -> io::Result<()> {
     let zeros = [0u8; 4];
-    print_both(b"empty", &zeros[..0]);
-    print_both(b"zeros", &zeros);
-    print_both(b"abc", b"abc");
+    print_both(&rt, b"empty", &zeros[..0])?;
+    print_both(&rt, b"zeros", &zeros)?;
+    print_both(&rt, b"abc", b"abc")?;
     print_both(
+        &rt,
         b"fips448",
         b"abcdbcdecdefdefgefghfghighijhijkijkljklmklmnlmnomnopnopq",
-    );
+    )?;
     print_both(
+        &rt,
         b"fips896",
         b"abcdefghbcdefghicdefghijdefghijkefghijklfghijklmghijklmnhijklmnoijklmnopjklmnopqklmnopqrlmnopqrsmnopqrstnopqrstu",
-    );
-    print_both(b"fox", b"The quick brown fox jumps over the lazy dog");
-    print_patterns();
+    )?;
+    print_both(&rt, b"fox", b"The quick brown fox jumps over the lazy dog")?;
+    print_patterns(&rt)
 }

@@ -1,4 +1,4 @@
--- What the proofs of `fill` and `main` share. Assumes nothing.
+-- What `Within` says of a count. Assumes nothing.
 use Prim.Native.Nat.{ℕ, ◌≤◌}
 use mathlib.Core.List.{List}
 use mathlib.Core.Path.{◌≡◌, subst}

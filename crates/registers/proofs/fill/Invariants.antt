@@ -1,0 +1,10 @@
+-- `registers::fill` meets its contract. The invariant: the bytes read lie within the buffer, which keeps its length. The measure is what is left to fill.
+-- Assumes nothing.
+use Rattle.std.proofs.Common.{◌≡◌, ◌≤◌, ◌-◌, length}
+use Rattle.registers.proofs.fill.Given as goal
+
+abbrev pub invariant-loop-done : goal.invariant-loop-done
+invariant-loop-done g l = (length l.buf ≡ length l.initial.buf) × (l.done ≤ length l.buf)
+
+abbrev pub decreases-loop-done : goal.decreases-loop-done
+decreases-loop-done g l = length l.buf - l.done

@@ -1,0 +1,11 @@
+-- `registers::show` meets its contract: what `print` wrote ends in its buffer. Assumes nothing.
+use Rattle.printed.proofs.Prints.{written_fits}
+use lib.Seq.{length-take-le}
+use mathlib.Core.Path.{sym}
+use Rattle.registers.proofs.show.Goals as goal
+
+pub slice_bounds-out-end : goal.slice_bounds-out-end
+slice_bounds-out-end g c = written_fits _ _ c.print-k.ensures
+
+pub slice_bounds-write_all-end : goal.slice_bounds-write_all-end
+slice_bounds-write_all-end g c = sym (length-take-le _ _ (written_fits _ _ c.print-k.ensures))

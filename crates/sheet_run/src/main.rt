@@ -9,8 +9,8 @@ ghost use Rattle.std.specs.Prelude.{◌≡◌, ◌≤◌, length};
 ghost use Rattle.wire.specs.Bytes.{Put, Room};
 ghost use Rattle.sheet_run.specs.Request.{sizes_of, request_of};
 
-use libc::STDOUT_FILENO;
 use service::{Answer, Reading, State};
+use std::io;
 use store::Last;
 
 // The flag of a request that extends and logs nothing.
@@ -62,84 +62,90 @@ fn put_request(d: &mut [u8], a: Asked, event: &[u8]) -> usize
     wire::put_bytes(d, e, event)
 }
 
-fn print_text(text: &[u8]) {
-    io::write_all(STDOUT_FILENO, text);
+fn print_text(rt: &impl Print, text: &[u8]) -> io::Result<()> {
+    rt.write_all(text)
 }
 
-fn print_number(n: u64) {
-    print_text(b" ");
-    io::print_decimal(STDOUT_FILENO, n);
+fn print_number(rt: &impl Print, n: u64) -> io::Result<()> {
+    print!(rt; " {n}")
 }
 
 // A space, and the digits of some bytes: no buffer here is longer than 300.
-fn print_hex(bytes: &[u8])
+fn print_hex(rt: &impl Print, bytes: &[u8]) -> io::Result<()>
     requires { length bytes.now ≤ 300 }
 {
-    print_text(b" ");
+    print_text(rt, b" ")?;
     let mut d = [0u8; 600];
     let n = hex_digits::put_hex(&mut d, 0, bytes);
-    print_text(&d[..n]);
+    print_text(rt, &d[..n])
 }
 
-fn print_last(last: Last) {
+fn print_last(rt: &impl Print, last: Last) -> io::Result<()> {
     match last {
-        Last::Missing => print_text(b" none"),
-        Last::At(p) => print_number(p as u64),
+        Last::Missing => print_text(rt, b" none"),
+        Last::At(p) => print_number(rt, p as u64),
     }
 }
 
 // The used lengths, whether the logs are closed, and the two flags of the state.
-fn print_marks(s: State) {
+fn print_marks(rt: &impl Print, s: State) -> io::Result<()> {
     let old = s.old;
     let agile = s.agile;
     let table = s.table;
-    print_number(old.used as u64);
-    print_number(agile.used as u64);
-    print_number(table.used as u64);
-    print_number(old.closed as u64);
-    print_number(agile.closed as u64);
-    print_number(s.armed as u64);
-    print_number(s.full as u64);
+    print_number(rt, old.used as u64)?;
+    print_number(rt, agile.used as u64)?;
+    print_number(rt, table.used as u64)?;
+    print_number(rt, old.closed as u64)?;
+    print_number(rt, agile.closed as u64)?;
+    print_number(rt, s.armed as u64)?;
+    print_number(rt, s.full as u64)
 }
 
 // The digest of the registers of every bank.
-fn print_registers(s: State) {
+fn print_registers(rt: &impl Print, s: State) -> io::Result<()> {
     let g = s.registers;
     let b = g.bytes;
     let h = sha256::digest(&b);
-    print_hex(&h);
+    print_hex(rt, &h)
 }
 
 // The rest of a line behind its name: the status, and all that an opening or a request leaves.
-fn print_answer(a: Answer, old: &[u8], agile: &[u8], table: &[u8])
+fn print_answer(
+    rt: &impl Print,
+    a: Answer,
+    old: &[u8],
+    agile: &[u8],
+    table: &[u8],
+) -> io::Result<()>
     requires { (length old.now ≤ 300) × (length agile.now ≤ 300) × (length table.now ≤ 300) }
 {
     let status = a.status;
     let s = a.state;
-    print_number(service::number_of(status));
-    print_marks(s);
-    print_hex(old);
-    print_hex(agile);
-    print_hex(table);
-    print_registers(s);
-    print_text(b"\n");
+    print_number(rt, service::number_of(status))?;
+    print_marks(rt, s)?;
+    print_hex(rt, old)?;
+    print_hex(rt, agile)?;
+    print_hex(rt, table)?;
+    print_registers(rt, s)?;
+    print_text(rt, b"\n")
 }
 
 // The rest of a reading's line.
-fn print_reading(r: Reading) {
+fn print_reading(rt: &impl Print, r: Reading) -> io::Result<()> {
     let status = r.status;
     let last = r.last;
     let s = r.state;
-    print_number(service::number_of(status));
-    print_number(r.length as u64);
-    print_last(last);
-    print_number(r.closed as u64);
-    print_number(s.armed as u64);
-    print_text(b"\n");
+    print_number(rt, service::number_of(status))?;
+    print_number(rt, r.length as u64)?;
+    print_last(rt, last)?;
+    print_number(rt, r.closed as u64)?;
+    print_number(rt, s.armed as u64)?;
+    print_text(rt, b"\n")
 }
 
 // Asks, and prints the rest of the line.
 fn ask(
+    rt: &impl Print,
     s: State,
     a: Asked,
     message: &[u8],
@@ -147,27 +153,35 @@ fn ask(
     old: &mut [u8],
     agile: &mut [u8],
     table: &mut [u8],
-) -> State
+) -> io::Result<State>
     requires { (length event.now ≤ 18) × (length old.old ≤ 300) × (length agile.old ≤ 300) × (length table.old ≤ 300) }
 {
     let mut d = [0u8; 36];
     let n = put_request(&mut d, a, event);
     let r = request::request(s, a.flags, message, &d[..n], old, agile, table);
-    print_answer(r, old, agile, table);
+    print_answer(rt, r, old, agile, table)?;
     let t = r.state;
-    t
+    Ok(t)
 }
 
 // Reads a log, and prints the rest of the line.
-fn read(s: State, format: u32, old: &[u8], agile: &[u8], table: &[u8]) -> State {
+fn read(
+    rt: &impl Print,
+    s: State,
+    format: u32,
+    old: &[u8],
+    agile: &[u8],
+    table: &[u8],
+) -> io::Result<State> {
     let r = service::read_log(s, format, old, agile, table);
-    print_reading(r);
+    print_reading(rt, r)?;
     let t = r.state;
-    t
+    Ok(t)
 }
 
 // A line for the request, and one for a reading of the agile log behind it, which shows the last entry.
 fn ask_and_read(
+    rt: &impl Print,
     name: &[u8],
     bitmap: u32,
     a: Asked,
@@ -176,24 +190,26 @@ fn ask_and_read(
     old: &mut [u8],
     agile: &mut [u8],
     table: &mut [u8],
-)
+) -> io::Result<()>
     requires { (length event.now ≤ 18) × (length old.old ≤ 300) × (length agile.old ≤ 300) × (length table.old ≤ 300) }
 {
     let o = service::open(bitmap, old, agile, table);
     let s = o.state;
-    print_text(name);
-    let t = ask(s, a, message, event, old, agile, table);
-    print_text(name);
-    print_text(b"-log");
-    read(t, 2, old, agile, table);
+    print_text(rt, name)?;
+    let t = ask(rt, s, a, message, event, old, agile, table)?;
+    print_text(rt, name)?;
+    print_text(rt, b"-log")?;
+    read(rt, t, 2, old, agile, table)?;
+    Ok(())
 }
 
 // 001's request, with buffers of 300 bytes.
-fn fox_row(name: &[u8], bitmap: u32, flags: u64) {
+fn fox_row(rt: &impl Print, name: &[u8], bitmap: u32, flags: u64) -> io::Result<()> {
     let mut old = [165u8; 300];
     let mut agile = [165u8; 300];
     let mut table = [165u8; 300];
     ask_and_read(
+        rt,
         name,
         bitmap,
         as_fox(flags),
@@ -202,89 +218,116 @@ fn fox_row(name: &[u8], bitmap: u32, flags: u64) {
         &mut old,
         &mut agile,
         &mut table,
-    );
+    )
 }
 
-fn print_fox() {
-    fox_row(b"fox-1", 1, 0);
-    fox_row(b"fox-2", 2, 0);
-    fox_row(b"fox-3", 3, 0);
-    fox_row(b"extend-1", 1, EXTEND_ONLY);
-    fox_row(b"extend-2", 2, EXTEND_ONLY);
-    fox_row(b"extend-3", 3, EXTEND_ONLY);
+fn print_fox(rt: &impl Print) -> io::Result<()> {
+    fox_row(rt, b"fox-1", 1, 0)?;
+    fox_row(rt, b"fox-2", 2, 0)?;
+    fox_row(rt, b"fox-3", 3, 0)?;
+    fox_row(rt, b"extend-1", 1, EXTEND_ONLY)?;
+    fox_row(rt, b"extend-2", 2, EXTEND_ONLY)?;
+    fox_row(rt, b"extend-3", 3, EXTEND_ONLY)
 }
 
 fn ask_fox(
+    rt: &impl Print,
     name: &[u8],
     s: State,
     flags: u64,
     old: &mut [u8],
     agile: &mut [u8],
     table: &mut [u8],
-) -> State
+) -> io::Result<State>
     requires { (length old.old ≤ 300) × (length agile.old ≤ 300) × (length table.old ≤ 300) }
 {
-    print_text(name);
-    ask(s, as_fox(flags), &FOX, &EVENT, old, agile, table)
+    print_text(rt, name)?;
+    ask(rt, s, as_fox(flags), &FOX, &EVENT, old, agile, table)
 }
 
 // Every store takes two entries.
-fn fill(s: State, old: &mut [u8], agile: &mut [u8], table: &mut [u8]) -> State
+fn fill(
+    rt: &impl Print,
+    s: State,
+    old: &mut [u8],
+    agile: &mut [u8],
+    table: &mut [u8],
+) -> io::Result<State>
     requires { (length old.old ≤ 300) × (length agile.old ≤ 300) × (length table.old ≤ 300) }
 {
-    let a = ask_fox(b"story-fox-1", s, 0, old, agile, table);
-    ask_fox(b"story-fox-2", a, 0, old, agile, table)
+    let a = ask_fox(rt, b"story-fox-1", s, 0, old, agile, table)?;
+    ask_fox(rt, b"story-fox-2", a, 0, old, agile, table)
 }
 
-// The third entry closes the agile log, and the others go on; then an extend_only_lem request answers 11 again.
-fn overfill(s: State, old: &mut [u8], agile: &mut [u8], table: &mut [u8]) -> State
+// The third entry closes the agile log, and the others go on; then an extend-only request answers 11 again.
+fn overfill(
+    rt: &impl Print,
+    s: State,
+    old: &mut [u8],
+    agile: &mut [u8],
+    table: &mut [u8],
+) -> io::Result<State>
     requires { (length old.old ≤ 300) × (length agile.old ≤ 300) × (length table.old ≤ 300) }
 {
-    let a = ask_fox(b"story-fox-3", s, 0, old, agile, table);
-    ask_fox(b"story-extend", a, EXTEND_ONLY, old, agile, table)
+    let a = ask_fox(rt, b"story-fox-3", s, 0, old, agile, table)?;
+    ask_fox(rt, b"story-extend", a, EXTEND_ONLY, old, agile, table)
 }
 
-fn read_both(s: State, old: &[u8], agile: &[u8], table: &[u8]) {
-    print_text(b"story-end-1");
-    let a = read(s, 1, old, agile, table);
-    print_text(b"story-end-2");
-    read(a, 2, old, agile, table);
+fn read_both(rt: &impl Print, s: State, old: &[u8], agile: &[u8], table: &[u8]) -> io::Result<()> {
+    print_text(rt, b"story-end-1")?;
+    let a = read(rt, s, 1, old, agile, table)?;
+    print_text(rt, b"story-end-2")?;
+    read(rt, a, 2, old, agile, table)?;
+    Ok(())
 }
 
 // Opens, and arms the table by a reading.
-fn open_armed(old: &mut [u8], agile: &mut [u8], table: &mut [u8]) -> State {
+fn open_armed(
+    rt: &impl Print,
+    old: &mut [u8],
+    agile: &mut [u8],
+    table: &mut [u8],
+) -> io::Result<State> {
     let o = service::open(3, old, agile, table);
     let s = o.state;
-    print_text(b"story-read-2");
-    read(s, 2, old, agile, table)
+    print_text(rt, b"story-read-2")?;
+    read(rt, s, 2, old, agile, table)
 }
 
-fn tell_story(old: &mut [u8], agile: &mut [u8], table: &mut [u8])
+fn tell_story(rt: &impl Print, old: &mut [u8], agile: &mut [u8], table: &mut [u8]) -> io::Result<()>
     requires { (length old.old ≤ 300) × (length agile.old ≤ 300) × (length table.old ≤ 300) }
 {
-    let s = open_armed(old, agile, table);
-    let a = fill(s, old, agile, table);
-    let b = overfill(a, old, agile, table);
-    read_both(b, old, agile, table);
+    let s = open_armed(rt, old, agile, table)?;
+    let a = fill(rt, s, old, agile, table)?;
+    let b = overfill(rt, a, old, agile, table)?;
+    read_both(rt, b, old, agile, table)
 }
 
-fn print_story() {
+fn print_story(rt: &impl Print) -> io::Result<()> {
     let mut old = [165u8; 300];
     let mut agile = [165u8; 300];
     let mut table = [165u8; 300];
-    tell_story(&mut old, &mut agile, &mut table);
+    tell_story(rt, &mut old, &mut agile, &mut table)
 }
 
-fn open_and_print(name: &[u8], bitmap: u32, old: &mut [u8], agile: &mut [u8], table: &mut [u8])
+fn open_and_print(
+    rt: &impl Print,
+    name: &[u8],
+    bitmap: u32,
+    old: &mut [u8],
+    agile: &mut [u8],
+    table: &mut [u8],
+) -> io::Result<()>
     requires { (length old.old ≤ 300) × (length agile.old ≤ 300) × (length table.old ≤ 300) }
 {
     let a = service::open(bitmap, old, agile, table);
-    print_text(name);
-    print_answer(a, old, agile, table);
+    print_text(rt, name)?;
+    print_answer(rt, a, old, agile, table)
 }
 
 // The agile buffer is the first n bytes, the table's the first k.
 fn open_in(
+    rt: &impl Print,
     name: &[u8],
     bitmap: u32,
     n: usize,
@@ -292,25 +335,25 @@ fn open_in(
     old: &mut [u8],
     agile: &mut [u8],
     table: &mut [u8],
-)
+) -> io::Result<()>
     requires { (n ≤ length agile.old) × (k ≤ length table.old) × (length old.old ≤ 300) × (length agile.old ≤ 300) × (length table.old ≤ 300) }
 {
-    open_and_print(name, bitmap, old, &mut agile[..n], &mut table[..k]);
+    open_and_print(rt, name, bitmap, old, &mut agile[..n], &mut table[..k])
 }
 
-fn open_row(name: &[u8], bitmap: u32, n: usize, k: usize)
+fn open_row(rt: &impl Print, name: &[u8], bitmap: u32, n: usize, k: usize) -> io::Result<()>
     requires { (n ≤ 200) × (k ≤ 100) }
 {
     let mut old = [165u8; 100];
     let mut agile = [165u8; 200];
     let mut table = [165u8; 100];
-    open_in(name, bitmap, n, k, &mut old, &mut agile, &mut table);
+    open_in(rt, name, bitmap, n, k, &mut old, &mut agile, &mut table)
 }
 
-fn main() {
-    print_fox();
-    print_story();
-    open_row(b"open-bitmap-0", 0, 200, 100);
-    open_row(b"open-table-15", 3, 200, 15);
-    open_row(b"open-agile-68", 3, 68, 100);
+fn main(rt: HostRuntime) -> io::Result<()> {
+    print_fox(&rt)?;
+    print_story(&rt)?;
+    open_row(&rt, b"open-bitmap-0", 0, 200, 100)?;
+    open_row(&rt, b"open-table-15", 3, 200, 15)?;
+    open_row(&rt, b"open-agile-68", 3, 68, 100)
 }

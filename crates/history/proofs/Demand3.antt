@@ -1,5 +1,5 @@
 -- Demand 3: after a successful opening, for any sequence of requests and readings, refused ones too, replaying a kept log gives what its recorded
--- measurements make of the reset values in the banks it covers; and where none was extend_only_lem and a last reading reports the log not cut off, it gives
+-- measurements make of the reset values in the banks it covers; and where none was extend-only and a last reading reports the log not cut off, it gives
 -- those banks themselves, however it is sliced. Assumes nothing.
 use mathlib.Core.Bool.{true, false, cond}
 use mathlib.Core.List.{List, [], ◌∷◌, ◌++◌}
@@ -40,7 +40,7 @@ recorded_good : (f : Form) (cap : ℕ) (cs : List Call) → AllBytes cs → All 
 unfolding recorded
 recorded_good f cap cs b = fitting_good (bytes_in f) cap (length f.head) (logged cs) (logged_good cs b)
 
--- where none was extend_only_lem and none found no room, what is recorded is what is accepted
+-- where none was extend-only and none found no room, what is recorded is what is accepted
 recorded_all : (f : Form) (cap : ℕ) (cs : List Call) → plain cs ≡ true → cut_off (bytes_in f) cap (length f.head) (logged cs) ≡ false → recorded f cap cs ≡ accepted cs
 unfolding recorded
 recorded_all f cap cs p c = fitting_all (bytes_in f) cap (length f.head) (logged cs) c ∙ logged_all cs p
@@ -129,7 +129,7 @@ module _ (bitmap : ℕ) (lentOld lentAgile lentTable : List ℕ) (ok : (opening_
   unfolding reading_of
   agile_told = rw (fit_belongs bitmap (length lentOld) (length lentAgile) (length lentTable) after fit)
 
-  -- 4. where no accepted request was extend_only_lem and a last reading of format 2 reports the log not cut off, replay gives the registers themselves
+  -- 4. where no accepted request was extend-only and a last reading of format 2 reports the log not cut off, replay gives the registers themselves
   pub agile_proves : plain cs ≡ true → (reading_of after.state 2 (length after.old) (length after.agile) (length after.table)).closed ≡ false
       → (ns : List ℕ) → length (accepted cs) ≤ sum ns
       → ((begin_of 2 agile_log).number ≡ 0) × ((replayed ns (begin_of 2 agile_log).replay agile_log).number ≡ 0) × ((replayed ns (begin_of 2 agile_log).replay agile_log).done ≡ true)

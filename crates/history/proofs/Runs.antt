@@ -138,7 +138,7 @@ module _ (bitmap O A T : ℕ) where
       ∙ ap (λ (q : Panel). extend_by (banks bitmap) (accepted cs) (registers_of q)) (step_reading p (fit_belongs bitmap O A T p k) format)
       ∙ ap (extend_by (banks bitmap) (accepted cs)) (registers_armed (arms p.state.bitmap format) p)
 
--- where no accepted request was extend_only_lem, all are logged
+-- where no accepted request was extend-only, all are logged
 pub logged_all : (cs : List Call) → plain cs ≡ true → logged cs ≡ accepted cs
 unfolding plain logged accepted
 logged_all [] h = refl

@@ -23,7 +23,7 @@ BUILT_IN = {
     "le": (2, lambda size, says: [Field(size, says)]),
     "replicate": (2, lambda size, says: [Field(size, says)]),
     "length": (1, length),
-    "getD": (3, lambda items, i, default: items[i] if i < len(items) else default),
+    "get_or": (3, lambda items, i, default: items[i] if i < len(items) else default),
     "eqb": (2, lambda a, b: a == b),
     "true": (0, lambda: True),
     "false": (0, lambda: False),

@@ -68,9 +68,9 @@ def checked(boxes, length):
 
 def old_entry(definitions):
     bank = definitions.value("table")[0]
-    fields = definitions.value("oldBytes", any_entry([bank]))
+    fields = definitions.value("old_bytes", any_entry([bank]))
     boxes = named(fields, ["register", "type", title(bank) + " digest", "event length", "event"])
-    length = definitions.value("oldLength", 0)
+    length = definitions.value("old_length", 0)
     return Shape("An entry of the 1.2 log: %d + e bytes" % length, [checked(boxes, length)])
 
 
@@ -78,8 +78,8 @@ def agile_entry(definitions, banks):
     names = ["register", "type", "digest count"]
     for bank in banks:
         names += ["algorithm", title(bank) + " digest"]
-    boxes = named(definitions.value("agileBytes", banks, any_entry(banks)), names + ["event length", "event"])
-    length = definitions.value("agileLength", banks, 0)
+    boxes = named(definitions.value("agile_bytes", banks, any_entry(banks)), names + ["event length", "event"])
+    length = definitions.value("agile_length", banks, 0)
     return Shape("An agile entry with %s: %d + e bytes" % (titles(banks), length), [checked(boxes, length)])
 
 
@@ -112,19 +112,19 @@ def spec_id_boxes(single):
 def header(definitions, banks):
     """A 1.2 entry whose event tells the banks: the entry's own fields in one row, the event's in the next."""
     names = ["register", "type", "zeros", "event length"]
-    fields, n = runs(definitions.value("headerBytes", banks)), len(names)
+    fields, n = runs(definitions.value("header_bytes", banks)), len(names)
     entry = named(fields[:n], names)
     names = ["bank count"] + ["algorithm", "digest length"] * len(banks) + ["zero"]
     event = spec_id_boxes(fields[n]) + named(fields[n + 1 :], names)
-    length = definitions.value("headerLength", banks)
+    length = definitions.value("header_length", banks)
     checked(entry + event, length)
-    one = definitions.value("headerLength", banks[:1])
+    one = definitions.value("header_length", banks[:1])
     caption = "The agile log's header with %s: %d bytes (with one bank %d)" % (titles(banks), length, one)
     return Shape(caption, [entry, event])
 
 
 def final_table(definitions):
-    version, count = definitions.value("tableFront")
+    version, count = definitions.value("table_front")
     # opening writes a count of 0, and each entry moves it on
     boxes = named([version, Field(count.size, "")], ["version", "number of entries"])
     length = definitions.value("fresh", 0)["table"]["used"]

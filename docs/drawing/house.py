@@ -24,7 +24,8 @@ def listed(path):
             if line.startswith("#"):
                 comment = line[1:].strip()
             elif ":" in line:
-                crates[line.split(":")[0].strip()] = comment
+                # a static library's line has a word behind the name
+                crates[line.split(":")[0].split()[0]] = comment
     return crates
 
 
@@ -40,13 +41,13 @@ def text_of(*patterns):
 class Crate:
     def __init__(self, root, name, comment):
         self.name, self.comment, folder = name, comment, root + "/" + name
-        # comments and texts aside, a name in front of :: is a crate or a type
-        code = re.sub(r'//.*|"(\\.|[^"\\])*"', "", text_of(folder + "/src/**/*.rt"))
+        # comments, texts and attributes aside, which may name lemmas, a name in front of :: is a crate or a type
+        code = re.sub(r'//.*|"(\\.|[^"\\])*"|#!?\[[^\]]*\]', "", text_of(folder + "/src/**/*.rt"))
         laws = re.sub(r"(^|\s)--.*", "", text_of(folder + "/specs/**/*.antt", folder + "/proofs/**/*.antt"))
         self.proofs_only = not re.search(r"\bfn ", code)
         self.program = bool(glob.glob(folder + "/src/main.rt"))
         self.exports = bool(re.search(r"\bextern\s+fn ", code))
-        cited = re.findall(r"Rattle·(\w+)", laws) if self.proofs_only else re.findall(r"\b(\w+)::", code)
+        cited = re.findall(r"\bRattle\.(\w+)", laws) if self.proofs_only else re.findall(r"\b(\w+)::", code)
         self.uses = set(cited) - {name}
 
 

@@ -1,4 +1,6 @@
 -- the laws of banks, for the crates above too
 pub mod Laws
--- a turn of each loop of this crate
-pub mod Turns
+-- the banks by the code's names
+pub mod Names
+-- what is left of each loop, and where a bank's bytes stand
+pub mod Loops

@@ -1,3 +1,4 @@
 pub mod Bank
+pub mod Named
 pub mod Registers
 pub mod Examples

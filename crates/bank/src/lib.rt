@@ -1,13 +1,16 @@
 // The banks of document 01, the registers of every bank, and what extending does to them. Only this crate knows which banks there are and where
-// their registers and digests stand; the crates above go by a bank's row in the table.
+// their registers and digests stand.
 #![tactic(auto)]
 
-ghost use Rattle.std.specs.Prelude.{◌≡◌, ◌<◌, ◌≤◌, length};
+ghost use Rattle.std.specs.Prelude.{◌≡◌, ℕ, ◌≤◌, length, map, replicate};
 ghost use Rattle.std.proofs.lemmas.List.Edits.{sets};
 ghost use Rattle.wire.specs.Bytes.{Put, Room};
-ghost use Rattle.bank.specs.Bank.{reset_byte, rows, bank_at, active, valid, banks, sha1_bank, sha256_bank};
-ghost use Rattle.bank.specs.Registers.{digests_length, registers_length, extend_all, reset_first, reset_all, digest_in, digests_in, hash_all};
+ghost use Rattle.bank.specs.Bank.{reset_byte, active, valid, banks, sha1_bank, sha256_bank};
+ghost use Rattle.bank.specs.Named.{row, register_of};
+ghost use Rattle.bank.specs.Registers.{digests_length, registers_length, value, extend_all, reset_first, reset_all, digest_in, digests_in, hash_all};
 ghost use Rattle.bank.specs.Registers as spec;
+
+use std::marker::Model;
 
 #[derive(Clone, Copy)]
 pub struct Sha1Bank;
@@ -45,15 +48,224 @@ impl Sha256Bank {
     }
 }
 
-// How many banks there are, and the bytes of one digest of each, and of the registers of each.
+// A row of the table of banks.
+#[derive(Clone, Copy, PartialEq, Eq)]
+pub enum Bank {
+    Sha1,
+    Sha256,
+}
+
+// How many banks there are.
 pub const BANKS: usize = 2;
+
+// The table of banks.
+pub static TABLE: [Bank; BANKS] = [Bank::Sha1, Bank::Sha256];
 
 // The bitmap of all banks.
 pub const ALL: u32 = Sha1Bank::BIT + Sha256Bank::BIT;
 
+// The bytes of one digest of each bank, and of the registers of each.
 pub const DIGESTS: usize = Sha1Bank::LEN + Sha256Bank::LEN;
 
 pub const REGISTERS: usize = 24 * DIGESTS;
+
+// A bank's registers are 0 to 23.
+#[derive(Clone, Copy)]
+pub struct Register {
+    number: usize,
+}
+
+impl Model for Register {
+    ghost Value = { ℕ };
+
+    ghost view = { λ r. r.number };
+
+    ghost invariant = { λ r. r.number ≤ 23 };
+
+    ghost inverse = { λ n. record { number = n } };
+}
+
+impl Register {
+    pub fn new(number: u64) -> Option<Register>
+        ensures { result ≡ register_of number }
+    {
+        if number <= 23 {
+            Some(Register {
+                number: number as usize,
+            })
+        } else {
+            None
+        }
+    }
+
+    pub fn number(self) -> usize
+        ensures value { result ≡ self }
+        ensures low { result ≤ 23 }
+    {
+        self.number
+    }
+}
+
+fn reset_byte(register: usize) -> u8
+    ensures { result ≡ reset_byte register }
+{
+    if 17 <= register && register <= 22 {
+        255
+    } else {
+        0
+    }
+}
+
+impl Bank {
+    // Its bit of the bitmap.
+    pub fn bit(self) -> u32
+        ensures { result ≡ (row self).bit }
+    {
+        match self {
+            Bank::Sha1 => Sha1Bank::BIT,
+            Bank::Sha256 => Sha256Bank::BIT,
+        }
+    }
+
+    // Its algorithm number.
+    pub fn algorithm(self) -> u16
+        ensures { result ≡ (row self).algorithm }
+    {
+        match self {
+            Bank::Sha1 => Sha1Bank::ALGORITHM,
+            Bank::Sha256 => Sha256Bank::ALGORITHM,
+        }
+    }
+
+    // Its digest's length.
+    pub fn size(self) -> usize
+        ensures { result ≡ (row self).size }
+    {
+        match self {
+            Bank::Sha1 => Sha1Bank::LEN,
+            Bank::Sha256 => Sha256Bank::LEN,
+        }
+    }
+
+    // Where its digest starts among one of each bank.
+    pub fn from(self) -> usize
+        ensures { result ≡ (row self).from }
+    {
+        match self {
+            Bank::Sha1 => 0,
+            Bank::Sha256 => Sha1Bank::LEN,
+        }
+    }
+
+    // The byte that a register is filled with at reset.
+    fn reset(self, register: usize) -> u8
+        ensures { result ≡ (row self).reset register }
+    {
+        match self {
+            Bank::Sha1 => Sha1Bank::reset(register),
+            Bank::Sha256 => Sha256Bank::reset(register),
+        }
+    }
+
+    pub fn is_active(self, bitmap: u32) -> bool
+        ensures { result ≡ active bitmap (row self) }
+    {
+        bitmap / self.bit() % 2 == 1
+    }
+}
+
+// The active banks that are still to come, in the table's order.
+#[derive(Drop)]
+pub struct ActiveBanks {
+    bitmap: u32,
+    rows: &'static [Bank],
+}
+
+impl Model for ActiveBanks {
+    ghost use Rattle.std.specs.Prelude.{List};
+    ghost use Rattle.bank.specs.declared.Bank.{Bank};
+    ghost use Rattle.bank.specs.Named.{named};
+
+    ghost Value = { List Bank };
+
+    ghost view = { λ a. named a.bitmap a.rows.now };
+}
+
+impl Iterator for ActiveBanks {
+    type Item = Bank;
+
+    ghost use Rattle.std.specs.Iterator.{YieldsFirst, item_count};
+
+    ghost next_gives = { YieldsFirst (λ rest. rest) };
+
+    ghost remaining = { item_count (λ rest. rest) };
+
+    fn next(&mut self) -> Option<Bank> {
+        while let Some((bank, rows)) = self.rows.split_first() {
+            self.rows = rows;
+            if bank.is_active(self.bitmap) {
+                return Some(*bank);
+            }
+        }
+        None
+    }
+}
+
+// The active banks, in the table's order.
+pub fn active(bitmap: u32) -> ActiveBanks
+    ensures { map row result ≡ banks bitmap }
+{
+    ActiveBanks {
+        bitmap,
+        rows: &TABLE,
+    }
+}
+
+// One digest of each bank. Those of banks that are not active mean nothing.
+#[derive(Clone, Copy)]
+pub struct Digests {
+    pub bytes: [u8; DIGESTS],
+}
+
+impl Digests {
+    // No digest yet.
+    pub fn blank() -> Digests
+        ensures { result.bytes ≡ replicate digests_length 0 }
+    {
+        Digests {
+            bytes: [0; DIGESTS],
+        }
+    }
+
+    // The digest of a bank.
+    pub fn of(&self, bank: Bank) -> &[u8]
+        ensures { result.now ≡ digest_in self.now.bytes (row bank) }
+    {
+        let start = bank.from();
+        let end = start + bank.size();
+        &self.bytes[start..end]
+    }
+
+    // Writes the digest of a message in a bank in its place.
+    fn hash(&mut self, bank: Bank, message: &[u8])
+        ensures { self.new.bytes ≡ sets self.old.bytes (row bank).from ((row bank).hash message.now) }
+    {
+        let start = bank.from();
+        match bank {
+            Bank::Sha1 => wire::put_bytes(&mut self.bytes, start, &sha1_hash::digest(message)),
+            Bank::Sha256 => wire::put_bytes(&mut self.bytes, start, &sha256::digest(message)),
+        };
+    }
+
+    // Writes the digests of a message in the active banks in their places.
+    pub fn hash_active(&mut self, bitmap: u32, message: &[u8])
+        ensures { self.new.bytes ≡ hash_all (banks bitmap) message.now self.old.bytes }
+    {
+        for bank in active(bitmap) {
+            self.hash(bank, message);
+        }
+    }
+}
 
 // The registers of every bank, active or not.
 #[derive(Clone, Copy)]
@@ -61,195 +273,86 @@ pub struct Registers {
     pub bytes: [u8; REGISTERS],
 }
 
-fn reset_byte(register: usize) -> u8
-    ensures { result ≡ reset_byte register }
+// Writes the reset values of a bank from place at of registers on, and says the place after them.
+fn put_reset(registers: &mut [u8], at: usize, bank: Bank) -> usize
+    requires { Room registers.old at (reset_first (row bank) 24) }
+    ensures { Put registers.old at (reset_first (row bank) 24) result registers.new }
 {
-    if (17 <= register) & (register <= 22) {
-        255
-    } else {
-        0
+    let mut p = at;
+    for register in 0..24 {
+        p = wire::put_fill(registers, p, bank.size(), bank.reset(register));
     }
+    p
 }
 
-// The bitmap bit of the bank in row i.
-pub fn bit(i: usize) -> u32
-    requires { i < rows }
-    ensures { result ≡ (bank_at i).bit }
-{
-    match i {
-        0 => Sha1Bank::BIT,
-        _ => Sha256Bank::BIT,
+impl Registers {
+    // Every byte 0, which no bank resets them to.
+    pub fn blank() -> Registers
+        ensures { result.bytes ≡ replicate registers_length 0 }
+    {
+        Registers {
+            bytes: [0; REGISTERS],
+        }
     }
-}
 
-// Its algorithm number.
-pub fn algorithm(i: usize) -> u16
-    requires { i < rows }
-    ensures { result ≡ (bank_at i).algorithm }
-{
-    match i {
-        0 => Sha1Bank::ALGORITHM,
-        _ => Sha256Bank::ALGORITHM,
+    // The registers of every bank, reset.
+    pub fn reset() -> Registers
+        ensures { result.bytes ≡ reset_all }
+    {
+        let mut bytes = [0; REGISTERS];
+        let mut at = 0;
+        for bank in &TABLE {
+            at = put_reset(&mut bytes, at, *bank);
+        }
+        Registers { bytes }
     }
-}
 
-// Its digest's length.
-pub fn size(i: usize) -> usize
-    requires { i < rows }
-    ensures { result ≡ (bank_at i).size }
-{
-    match i {
-        0 => Sha1Bank::LEN,
-        _ => Sha256Bank::LEN,
+    // The value of a register of a bank, where it lies.
+    pub fn value(&self, bank: Bank, register: Register) -> &[u8]
+        ensures { result.now ≡ value (row bank) register self.now.bytes }
+    {
+        let size = bank.size();
+        let start = 24 * bank.from() + register.number() * size;
+        let end = start + size;
+        &self.bytes[start..end]
     }
-}
 
-// Where its digest starts among one of each bank.
-pub fn from(i: usize) -> usize
-    requires { i < rows }
-    ensures { result ≡ (bank_at i).from }
-{
-    match i {
-        0 => 0,
-        _ => Sha1Bank::LEN,
+    // Extends a register of a bank.
+    pub fn extend(&mut self, bank: Bank, register: Register, digest: &[u8])
+        requires { length digest.now ≡ (row bank).size }
+        ensures { self.new.bytes ≡ spec.extend (row bank) register digest.now self.old.bytes }
+    {
+        let size = bank.size();
+        let start = 24 * bank.from() + register.number() * size;
+        let end = start + size;
+        let value = &mut self.bytes[start..end];
+        match bank {
+            Bank::Sha1 => sha1_hash::extend(value, digest),
+            Bank::Sha256 => sha256::extend(value, digest),
+        }
     }
-}
 
-// The byte that a register of the bank in row i is filled with at reset.
-fn reset_of(i: usize, register: usize) -> u8
-    requires { i < rows }
-    ensures { result ≡ (bank_at i).reset register }
-{
-    match i {
-        0 => Sha1Bank::reset(register),
-        _ => Sha256Bank::reset(register),
+    // Extends a register of each active bank with that bank's digest.
+    pub fn extend_active(&mut self, bitmap: u32, register: Register, digests: &Digests)
+        ensures { self.new.bytes ≡ extend_all (banks bitmap) register (digests_in (banks bitmap) digests.now.bytes) self.old.bytes }
+    {
+        for bank in active(bitmap) {
+            self.extend(bank, register, digests.of(bank));
+        }
     }
-}
-
-// Whether the bank in row i is active.
-pub fn is_active(bitmap: u32, i: usize) -> bool
-    requires { i < rows }
-    ensures { result ≡ active bitmap (bank_at i) }
-{
-    bitmap / bit(i) % 2 == 1
 }
 
 // Whether a bitmap names banks of the table and no others, one at least.
+#[tactic(auto, unfolding(crate::specs::Bank::valid))]
 pub fn is_valid(bitmap: u32) -> bool
     ensures { result ≡ valid bitmap }
 {
-    (1 <= bitmap) & (bitmap <= 3)
+    1 <= bitmap && bitmap <= 3
 }
 
 // How many banks are active.
 pub fn count(bitmap: u32) -> usize
     ensures { result ≡ length (banks bitmap) }
 {
-    let mut n: usize = 0;
-    let mut i: usize = 0;
-    while i < BANKS {
-        if is_active(bitmap, i) {
-            n += 1;
-        }
-        i += 1;
-    }
-    n
-}
-
-// Writes the reset values of the bank in row i from place at of registers on, and says the place after them.
-fn put_reset(registers: &mut [u8], at: usize, i: usize) -> usize
-    requires { (i < rows) × Room registers.old at (reset_first (bank_at i) 24) }
-    ensures { Put registers.old at (reset_first (bank_at i) 24) result registers.new }
-{
-    let n = size(i);
-    let mut p = at;
-    let mut r: usize = 0;
-    while r < 24 {
-        p = wire::put_fill(registers, p, n, reset_of(i, r));
-        r += 1;
-    }
-    p
-}
-
-// The registers of every bank, reset.
-pub fn reset(registers: &mut [u8])
-    requires { length registers.old ≡ registers_length }
-    ensures { registers.new ≡ reset_all }
-{
-    let mut p: usize = 0;
-    let mut i: usize = 0;
-    while i < BANKS {
-        p = put_reset(registers, p, i);
-        i += 1;
-    }
-}
-
-// Extends a register of the bank in row i.
-pub fn extend(registers: &mut [u8], i: usize, register: usize, digest: &[u8])
-    requires { (length registers.old ≡ registers_length) × (i < rows) × (register ≤ 23) × (length digest.now ≡ (bank_at i).size) }
-    ensures { registers.new ≡ spec.extend (bank_at i) register digest.now registers.old }
-{
-    let n = size(i);
-    let a = 24 * from(i) + register * n;
-    let e = a + n;
-    match i {
-        0 => sha1_hash::extend(&mut registers[a..e], digest),
-        _ => sha256::extend(&mut registers[a..e], digest),
-    }
-}
-
-// The digest of the bank in row i.
-pub fn digest_of(digests: &[u8], i: usize) -> &[u8]
-    requires { (length digests.now ≡ digests_length) × (i < rows) }
-    ensures { result.now ≡ digest_in digests.now (bank_at i) }
-{
-    let a = from(i);
-    let e = a + size(i);
-    &digests[a..e]
-}
-
-// Writes the digest of a message in the bank in row i in its place.
-fn put_digest(digests: &mut [u8], i: usize, message: &[u8])
-    requires { (length digests.old ≡ digests_length) × (i < rows) }
-    ensures { digests.new ≡ sets digests.old (bank_at i).from ((bank_at i).hash message.now) }
-{
-    let at = from(i);
-    match i {
-        0 => {
-            let h = sha1_hash::digest(message);
-            wire::put_bytes(digests, at, &h);
-        }
-        _ => {
-            let h = sha256::digest(message);
-            wire::put_bytes(digests, at, &h);
-        }
-    }
-}
-
-// Writes the digests of a message in the active banks in their places.
-pub fn hash_active(digests: &mut [u8], bitmap: u32, message: &[u8])
-    requires { length digests.old ≡ digests_length }
-    ensures { digests.new ≡ hash_all (banks bitmap) message.now digests.old }
-{
-    let mut i: usize = 0;
-    while i < BANKS {
-        if is_active(bitmap, i) {
-            put_digest(digests, i, message);
-        }
-        i += 1;
-    }
-}
-
-// Extends a register of each active bank with that bank's digest.
-pub fn extend_active(registers: &mut [u8], bitmap: u32, register: usize, digests: &[u8])
-    requires { (length registers.old ≡ registers_length) × (register ≤ 23) × (length digests.now ≡ digests_length) }
-    ensures { registers.new ≡ extend_all (banks bitmap) register (digests_in (banks bitmap) digests.now) registers.old }
-{
-    let mut i: usize = 0;
-    while i < BANKS {
-        if is_active(bitmap, i) {
-            extend(registers, i, register, digest_of(digests, i));
-        }
-        i += 1;
-    }
+    active(bitmap).count()
 }

@@ -1,12 +1,8 @@
--- `bank::put_reset` meets its contract. The loop's invariant: the reset values of the first r registers are written. Assumes nothing.
-use Prim.Native.Nat.{◌-◌, ◌≤◌}
+-- The loop's invariant: the reset values of the registers below this one are written. Assumes nothing.
 use Rattle.wire.specs.Bytes.{Put}
+use Rattle.bank.specs.Named.{row}
 use Rattle.bank.specs.Registers.{reset_first}
-use Rattle.bank.specs.Bank.{bank_at}
 use Rattle.bank.proofs.put_reset.Given as goal
 
-abbrev pub invariant-loop-r : goal.invariant-loop-r
-invariant-loop-r l = (l.r ≤ 24) × Put l.initial.registers l.at (reset_first (bank_at l.i) l.r) l.p l.registers
-
-abbrev pub decreases-loop-r : goal.decreases-loop-r
-decreases-loop-r l = 24 - l.r
+abbrev pub invariant-loop-register : goal.invariant-loop-register
+invariant-loop-register l = Put l.initial.registers l.at (reset_first (row l.bank) l.register) l.p l.registers

@@ -225,6 +225,7 @@ pub fn active(bitmap: u32) -> ActiveBanks
 #[derive(Clone, Copy)]
 pub struct Digests {
     pub bytes: [u8; DIGESTS],
+    ghost whole: { length bytes ≡ digests_length },
 }
 
 impl Digests {

@@ -1,10 +1,5 @@
 -- Fields one after another in bytes, both ways: what lies at a place, what lies behind it, and bytes that are copied out. Assumes nothing.
-use Prim.Native.Nat.{ℕ, ◌+◌, ◌-◌, ◌≤◌, ◌<◌, ◌^◌}
-use mathlib.Core.List.{List, ◌++◌}
-use mathlib.Core.Path.{◌≡◌, sym, ◌∙◌}
-use native.Mathlib.Omega.{arith}
-use lib.ListN.{length, drop, take-append-drop, length-drop}
-use lib.Seq.{drop-drop, take_at, drop_at, length-take-le}
+use Rattle.std.proofs.Common.{ℕ, ◌≡◌, ◌+◌, ◌-◌, ◌≤◌, ◌<◌, ◌^◌, List, ◌++◌, length, drop, sym, ◌∙◌, arith, take-append-drop, length-drop, drop-drop, take_at, drop_at, length-take-le}
 use Rattle.wire.specs.Bytes.{le, unle, num, part, Bytes, Put}
 use Rattle.wire.proofs.Laws.{length_le, unle_le_small, le_unle, bytes_part, put_all}
 

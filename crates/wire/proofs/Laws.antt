@@ -1,14 +1,9 @@
--- What the crates above cite of numbers in bytes, over any width, and of runs of stores; and a turn of each loop of this crate. Assumes nothing.
-use Prim.Native.Nat.{ℕ, suc, zero, ◌+◌, ◌-◌, ◌*◌, ◌/◌, ◌%◌, ◌^◌, ◌≤◌, ◌<◌}
-use mathlib.Core.Path.{◌≡◌, refl, sym, ap, ◌∙◌}
-use mathlib.Core.List.{List, [], ◌∷◌, ◌++◌, append-nil, append_assoc}
-use native.Mathlib.Omega.{arith}
-use native.Mathlib.Nat.{pow-suc, pow-le-pow_right, one-le-pow, mod-eq_of_lt, add-zero}
-use mir.Syntax.{w8}
-use mir.Val.{Fits}
-use lib.Arith.{mod-mul}
-use lib.ListN.{length, set, drop, take, get_or, drop_of_length-le, length-append, length-take, length-drop, replicate}
-use lib.Seq.{sets, length-sets, sets-eq, length-take-le, take_all, drop-cons, drop-drop, get_or-drop, take-append_seam, drop-append_seam}
+-- What the crates above cite of numbers in bytes, over any width, and of runs of stores; and what this crate's own functions rest on. Assumes nothing.
+use Rattle.std.proofs.Common.{ℕ, suc, zero, ◌≡◌, ◌+◌, ◌-◌, ◌*◌, ◌/◌, ◌%◌, ◌^◌, ◌≤◌, ◌<◌, List, [], ◌∷◌, ◌++◌, length, set, drop, take, get_or, refl, sym, ap, ◌∙◌, append-nil, append_assoc, arith, pow-suc, mod-eq_of_lt, add-zero, drop_of_length-le, length-append, length-set, length-take, mul-le-mul_right, length-drop, length-take-le, take_all, drop-drop, get_or-drop, Fits, w8}
+use Rattle.std.proofs.Math.Nat.{pow-le-pow_right, one-le-pow}
+use Rattle.std.proofs.Math.Arith.{mod-mul}
+use Rattle.std.proofs.lemmas.List.{take_more_set}
+use Rattle.std.proofs.Math.Seq.{sets, length-sets, sets-eq, take-append_seam, drop-append_seam}
 use Rattle.wire.specs.Bytes.{le, unle, part, num, Bytes, Put, Room}
 
 -- ---- numbers and their bytes
@@ -92,11 +87,6 @@ num_lt s at w h =
 -- the bytes b that stand after a are found at a's end
 pub part_here : (a b c : List ℕ) → part (a ++ (b ++ c)) (length a) (length b) ≡ b
 part_here a b c = rw (drop-append_seam a (b ++ c)) (take-append_seam b c)
-
--- the number that stands after a is found at a's end
-pub num_here : (a : List ℕ) (w n : ℕ) (c : List ℕ) → num (a ++ (le w n ++ c)) (length a) w ≡ n % 256 ^ w
-unfolding num
-num_here a w n c = ap unle (rw length_le at (part_here a (le w n) c)) ∙ unle_le w n
 
 -- ---- runs of stores
 
@@ -218,67 +208,66 @@ lent_tail {bs} {m} l u p =
       bytes = rw (drop_of_length-le (drop u l) h, append-nil, q) (sets_tail u l bs);
     }
 
--- the same of an array l, whose length n is a numeral
-pub lent_tail_of : {bs m : List ℕ} {k : ℕ} (l : List ℕ) (u n : ℕ) → length l ≡ n → Put (take (n - u) (drop u l)) 0 bs k m
-    → Put l u bs (u + k) (take u l ++ (m ++ drop (n - u) (drop u l)))
-lent_tail_of l u n e p = rw (← e) (lent_tail l u (rw (← e) at p))
+-- ---- the writers and the reader of this crate
 
--- ---- the loops of this crate: a turn of each, and its end
+-- the part of d from place at to e, written over, is a write of what it now holds
+pub put_over : (d : List ℕ) {bs ys : List ℕ} (at e r : ℕ) → Room d at bs → e ≡ at + length bs → r ≡ at + length bs → ys ≡ bs
+    → Put d at bs r (take at d ++ (ys ++ drop (e - at) (drop at d)))
+put_over d {bs} {ys} at e r h n m q =
+    let l : length ys ≡ e - at = omega (arith, ap length q) in
+    record { next = m; bytes = lent_part d ys at e (omega arith) (omega (arith, h.fits)) l ∙ ap (sets d at) q }
 
--- a turn of `put_le`: what is left to write, with a byte of it stored
-pub le_turn : (d : List ℕ) (at i w v : ℕ) → i < w
-    → sets (set d (at + i) (v % 256)) (at + (i + 1)) (le (w - (i + 1)) (v / 256)) ≡ sets d (at + i) (le (w - i) v)
+-- a turn of `put_le`: the bytes before place i and then those of v, with a byte of v written
+pub le_turn : (bs : List ℕ) (i v : ℕ) → i < length bs
+    → take (i + 1) (set bs i (v % 256)) ++ le (length (set bs i (v % 256)) - (i + 1)) (v / 256) ≡ take i bs ++ le (length bs - i) v
 unfolding le
-le_turn d at i w v h =
-    let e : w - i ≡ suc (w - (i + 1)) = omega arith in
-    let p : at + (i + 1) ≡ suc (at + i) = omega arith in
-    rw (e, p)
+le_turn bs i v h =
+    let e : length bs - i ≡ suc (length bs - (i + 1)) = omega arith in
+    rw (take_more_set bs i (v % 256) h, length-set bs i (v % 256), e) (append_assoc (take i bs) ((v % 256) ∷ []) (le (length bs - (i + 1)) (v / 256)))
 
--- the end of `put_le`: nothing is left to write
-pub le_end : (d x : List ℕ) (at i w v : ℕ) → w ≤ i → sets d (at + i) (le (w - i) v) ≡ x → d ≡ x
+-- the end of `put_le`: every byte is written
+pub le_end : (bs x : List ℕ) (i v : ℕ) → length bs ≤ i → take i bs ++ le (length bs - i) v ≡ x → bs ≡ x
 unfolding le
-le_end d x at i w v h e =
-    let z : w - i ≡ 0 = omega arith in
-    rw z at e
+le_end bs x i v h e =
+    let z : length bs - i ≡ 0 = omega arith in
+    let t : bs ++ le 0 v ≡ x = rw (take_all i bs h, z) at e in
+    sym (append-nil bs) ∙ t
 
--- a turn of `put_bytes`: what is left to write, with a byte of it stored
-pub bytes_turn : (d s : List ℕ) (at i : ℕ) → i < length s
-    → sets (set d (at + i) (get_or s i 0)) (at + (i + 1)) (drop (i + 1) s) ≡ sets d (at + i) (drop i s)
-bytes_turn d s at i h =
-    let q : i + 1 ≡ suc i = omega arith in
-    let p : at + suc i ≡ suc (at + i) = omega arith in
-    rw (drop-cons s i 0 h, q, p)
+-- the number of bytes with one more behind them
+unle_push : (bs : List ℕ) (b : ℕ) → unle (bs ++ b ∷ []) ≡ unle bs + 256 ^ length bs * b
+unfolding unle
+unle_push [] b = omega arith
+unle_push (c ∷ bs) b = rw (unle_push bs b, pow-suc 256 (length bs)) (omega arith)
 
--- the end of `put_bytes`: nothing is left to write
-pub bytes_end : (d x s : List ℕ) (at i : ℕ) → length s ≤ i → sets d (at + i) (drop i s) ≡ x → d ≡ x
-bytes_end d x s at i h e = rw (drop_of_length-le s h) at e
+-- the begin of `get_le`: all bytes are still to be read
+pub num_begin : (s : List ℕ) (at w : ℕ) {cs : List ℕ} → cs ≡ take (at + w - at) (drop at s) → unle cs + 256 ^ length cs * 0 ≡ num s at w
+unfolding num
+num_begin s at w {cs} e =
+    let k : at + w - at ≡ w = omega arith in
+    let t = rw k at e in
+    rw t (omega arith)
 
--- a turn of `get_le`: v is the number in the bytes from i on, and the byte before them is read
-pub num_turn : (s : List ℕ) (at i w v : ℕ) → at + w ≤ length s → 0 < i → (i ≤ w) × (v ≡ num s (at + i) (w - i))
-    → v * 256 + get_or s (at + (i - 1)) 0 ≡ num s (at + (i - 1)) (w - (i - 1))
-unfolding num unle
-num_turn s at i w v hs h q =
-    let l : at + (i - 1) < length s = omega arith in
-    let n : w - (i - 1) ≡ suc (w - i) = omega arith in
-    let p : suc (at + (i - 1)) ≡ at + i = omega arith in
-    rw (n, drop-cons s (at + (i - 1)) 0 l, p) (omega arith)
+-- a turn of `get_le`: the bytes still to be read, with v behind them, spell x, and their last is read
+pub num_turn : (bs : List ℕ) {cs : List ℕ} (b v : ℕ) {x : ℕ} → cs ≡ bs ++ b ∷ [] → unle cs + 256 ^ length cs * v ≡ x
+    → unle bs + 256 ^ length bs * (v * 256 + b) ≡ x
+num_turn bs b v e h =
+    let n : length (bs ++ b ∷ []) ≡ suc (length bs) = length-append bs (b ∷ []) ∙ omega arith in
+    let t = rw (e, unle_push bs b, n, pow-suc 256 (length bs)) at h in
+    omega arith
 
--- what such a turn makes of v fits a u64
-pub turn_fits : (s : List ℕ) (at i w v : ℕ) → Bytes s → (at + w ≤ length s) × (w ≤ 8) → 0 < i → (i ≤ w) × (v ≡ num s (at + i) (w - i))
-    → v * 256 + get_or s (at + (i - 1)) 0 < 2 ^ 64
-turn_fits s at i w v b p h q =
-    let k : w - (i - 1) ≤ 8 = omega arith in
-    omega (arith, num_turn s at i w v p.0 h q, num_lt s (at + (i - 1)) (w - (i - 1)) b, pow-le-pow_right {n = 256} (omega arith) k)
+-- the end of `get_le`: none is left
+pub num_end : (bs : List ℕ) (v : ℕ) {x : ℕ} → length bs ≡ 0 → unle bs + 256 ^ length bs * v ≡ x → v ≡ x
+unfolding unle
+num_end [] v e h = omega arith
+num_end (b ∷ bs) v e h = absurd (omega arith)
 
--- a turn of `put_fill`, and its end
-pub fill_turn : (d : List ℕ) (at i n b : ℕ) → i < n
-    → sets (set d (at + i) b) (at + (i + 1)) (replicate (n - (i + 1)) b) ≡ sets d (at + i) (replicate (n - i) b)
-fill_turn d at i n b h =
-    let e : n - i ≡ suc (n - (i + 1)) = omega arith in
-    let p : at + (i + 1) ≡ suc (at + i) = omega arith in
-    rw (e, p)
+-- what such a turn makes of v fits a u64, where the number has at most 8 bytes
+pub turn_fits : (bs : List ℕ) {cs : List ℕ} (b v : ℕ) (s : List ℕ) (at w : ℕ) → Bytes s → w ≤ 8 → cs ≡ bs ++ b ∷ []
+    → unle cs + 256 ^ length cs * v ≡ num s at w → v * 256 + b < 2 ^ 64
+turn_fits bs b v s at w h k e i =
+    let turn = num_turn bs b v e i in
+    let high = mul-le-mul_right (v * 256 + b) (one-le-pow (length bs) 256 (omega arith)) in
+    omega (arith, num_lt s at w h, pow-le-pow_right {n = 256} (omega arith) k)
 
-pub fill_end : (d x : List ℕ) (at i n b : ℕ) → n ≤ i → sets d (at + i) (replicate (n - i) b) ≡ x → d ≡ x
-fill_end d x at i n b h e =
-    let z : n - i ≡ 0 = omega arith in
-    rw z at e
+-- what the check tries at each goal of `get_le`
+pub ruleset reading = (num_begin, num_turn, num_end, num_lt, bytes_known)

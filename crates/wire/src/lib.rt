@@ -6,57 +6,49 @@ ghost use Rattle.std.specs.Prelude.{◌≡◌, ◌+◌, ◌≤◌, ◌<◌, ◌^
 ghost use Rattle.wire.specs.Bytes.{le, num, part, Put, Room};
 
 // Writes the w low bytes of n from place at of d on, and says the place after them.
+#[tactic(auto, using(crate::proofs::Laws::length_le, crate::proofs::Laws::le_turn))]
 pub fn put_le(d: &mut [u8], at: usize, w: usize, n: u64) -> usize
     requires { Room d.old at (le w n) }
     ensures { Put d.old at (le w n) result d.new }
 {
     let mut v = n;
-    let mut i = 0;
-    while i < w {
-        d[at + i] = (v % 256) as u8;
-        v = v / 256;
-        i += 1;
+    for byte in &mut d[at..at + w] {
+        *byte = (v % 256) as u8;
+        v /= 256;
     }
     at + w
 }
 
 // The number in the w bytes of s from place at on.
+#[tactic(auto, using(crate::proofs::Laws::reading))]
 pub fn get_le(s: &[u8], at: usize, w: usize) -> u64
     requires { (at + w ≤ length s.now) × (w ≤ 8) }
     ensures { (result ≡ num s.now at w) × (result < 256 ^ w) }
 {
-    let mut v: u64 = 0;
-    let mut i = w;
-    while 0 < i {
-        i -= 1;
-        v = v * 256 + wide(s[at + i]);
+    let mut v = 0;
+    for byte in s[at..at + w].iter().rev() {
+        v = v * 256 + u64::from(*byte);
     }
     v
 }
 
 // Writes the bytes s from place at of d on, and says the place after them.
+#[tactic(auto, using(crate::proofs::Laws::put_over))]
 pub fn put_bytes(d: &mut [u8], at: usize, s: &[u8]) -> usize
     requires { Room d.old at s.now }
     ensures { Put d.old at s.now result d.new }
 {
-    let mut k = 0;
-    while k < s.len() {
-        d[at + k] = s[k];
-        k += 1;
-    }
+    d[at..at + s.len()].copy_from_slice(s);
     at + s.len()
 }
 
 // Writes n bytes b from place at of d on, and says the place after them.
+#[tactic(auto, using(crate::proofs::Laws::put_over))]
 pub fn put_fill(d: &mut [u8], at: usize, n: usize, b: u8) -> usize
     requires { Room d.old at (replicate n b) }
     ensures { Put d.old at (replicate n b) result d.new }
 {
-    let mut i: usize = 0;
-    while i < n {
-        d[at + i] = b;
-        i += 1;
-    }
+    d[at..at + n].fill(b);
     at + n
 }
 
@@ -65,13 +57,5 @@ pub fn get_bytes(s: &[u8], at: usize, n: usize) -> &[u8]
     requires { at + n ≤ length s.now }
     ensures { result.now ≡ part s.now at n }
 {
-    let e = at + n;
-    &s[at..e]
-}
-
-// A byte as a wider number: `s[i] as u64` would ask for a proof that the byte fits.
-fn wide(x: u8) -> u64
-    ensures { result ≡ x }
-{
-    x as u64
+    &s[at..at + n]
 }

@@ -1,13 +1,7 @@
--- `wire::put_le` meets its contract. The loop's invariant: what is left to write, the bytes of v, completes what was asked. Assumes nothing.
-use Prim.Native.Nat.{◌+◌, ◌-◌, ◌≤◌}
-use mathlib.Core.Path.{◌≡◌}
-use lib.ListN.{length}
-use lib.Seq.{sets}
+-- `wire::put_le` meets its contract. The loop's invariant: the bytes written so far, and then those of v, are those of n. Assumes nothing.
+use Rattle.std.proofs.Common.{◌≡◌, ◌-◌, ◌++◌, length, take}
 use Rattle.wire.specs.Bytes.{le}
 use Rattle.wire.proofs.put_le.Given as goal
 
-abbrev pub invariant-loop-i : goal.invariant-loop-i
-invariant-loop-i l = (l.i ≤ l.w) × (length l.d ≡ length l.initial.d) × (sets l.d (l.at + l.i) (le (l.w - l.i) l.v) ≡ sets l.initial.d l.at (le l.w l.n))
-
-abbrev pub decreases-loop-i : goal.decreases-loop-i
-decreases-loop-i l = l.w - l.i
+abbrev pub invariant-loop-byte : goal.invariant-loop-byte
+invariant-loop-byte l = take l.byte-index l.byte-items ++ le (length l.byte-items - l.byte-index) l.v ≡ le l.w l.n

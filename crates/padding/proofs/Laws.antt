@@ -1,10 +1,11 @@
 -- The laws of words, of the chain over blocks and of a padded message. Assumes nothing.
 use Rattle.std.proofs.Common.{◌≡◌, ℕ, zero, suc, ◌+◌, ◌-◌, ◌*◌, ◌/◌, ◌%◌, ◌^◌, ◌<◌, ◌≤◌, List, [], ◌∷◌, ◌++◌, length, take, drop, set, replicate, sym, refl, ap, ◌∙◌, ap₂, append_assoc, append-nil, le_of_eq, add-zero, add_assoc, add-suc, suc-mul, mul_comm, add-mul, one-mul, pow-suc, div-add-mod', zero-mul, div-mul-le_self, div-one, mul-div_cancel, add-one, arith, length-append, length-drop, length-set, take-append-drop, length-take-le, take_all, get_or-take, take-suc-set, take_at, get_or-append-add}
-use native.Mathlib.Nat.{lt-div-mul-add, mul-add-div_right, div-div-eq-div-mul}
-use lib.ListN.{length-replicate, get_or-append}
-use lib.Seq.{sets, drop-append-le, take-append-le, drop-append-add, set_comm, sets-eq}
+use Rattle.std.proofs.Math.Nat.{lt-div-mul-add, mul-add-div_right, div-div-eq-div-mul}
+use Rattle.std.proofs.Math.ListN.{get_or-append}
+use Rattle.std.proofs.Math.Seq.{sets, drop-append-add, sets-eq}
+use Rattle.std.proofs.lemmas.List.{drop-append-le, length-replicate, set_comm, take-append-le, take_more_set}
 use Rattle.wire.specs.Bytes.{Put, Room}
-use Rattle.wire.proofs.Laws.{sets_append, part_put}
+use Rattle.wire.proofs.Laws.{lent_part, sets_append, part_put}
 use Rattle.padding.specs.Words.{run, steps, grow, words, number, bytes}
 use Rattle.padding.specs.Padding.{blocks, zeros, ending, padding, chain, absorbed, finished, hash}
 use Rattle.padding.specs.Sha2.{Member, next}
@@ -96,11 +97,17 @@ length_words b zero m = refl
 length_words b (suc n) m = length-append (words b n m) (number b m (n * b) ∷ []) ∙ (rw (length_words b n m) (add-one n))
 
 -- one word more of a block, written behind the first i
-pub words_more : (b i at : ℕ) (m w : List ℕ) {w' : List ℕ} {x : ℕ} → w' ≡ sets w at (words b i m) → x ≡ number b m (i * b)
-    → set w' (at + i) x ≡ sets w at (words b (i + 1) m)
+pub words_turn : (i : ℕ) (m ws : List ℕ) {x : ℕ} → i < length ws → take i ws ≡ words 4 i m → x ≡ number 4 m (i * 4)
+    → take (i + 1) (set ws i x) ≡ words 4 (i + 1) m
 unfolding run
-words_more b i at m w {w'} {x} e p =
-    rw (add-one i, sets_append (words b i m) w (number b m (i * b) ∷ []) at, length_words b i m, e, p)
+words_turn i m ws {x} h e p = take_more_set ws i x h ∙ rw (e, p, add-one i)
+
+-- the part of w from place at on, once all its n words stand
+pub words_end : (w m ws : List ℕ) (at n i : ℕ) → at + n ≤ length w → length ws ≡ n → i ≡ n → take i ws ≡ words 4 i m
+    → take at w ++ (ws ++ drop (at + n - at) (drop at w)) ≡ sets w at (words 4 n m)
+words_end w m ws at n i h l k e =
+    let all : ws ≡ words 4 n m = sym (take_all n ws (omega arith)) ∙ (rw k at e) in
+    lent_part w ws at (at + n) (omega arith) h (omega arith) ∙ ap (sets w at) all
 
 -- what a run of stores from the front on leaves there
 pub take_sets : (n : ℕ) (w bs : List ℕ) → length bs ≡ n → n ≤ length w → take n (sets w 0 bs) ≡ bs

@@ -11,10 +11,11 @@ ghost use Rattle.padding.specs.Padding.{ending};
 pub fn add(x: u32, y: u32) -> u32
     ensures { result ≡ plus 32 x y }
 {
-    std::num::wrapping_add_u32(x, y)
+    x.wrapping_add(y)
 }
 
 // FIPS 180-4, 4.1: Ch. Where y and z differ, x picks: one operation less than in the standard's form.
+#[tactic(auto, using(crate::proofs::Bits::choose_is))]
 pub fn choose(x: u32, y: u32, z: u32) -> u32
     ensures { result ≡ ch 32 x y z }
 {
@@ -22,52 +23,44 @@ pub fn choose(x: u32, y: u32, z: u32) -> u32
 }
 
 // FIPS 180-4, 4.1: Maj. Where x and y agree they win, else z does.
+#[tactic(auto, using(crate::proofs::Bits::majority_is))]
 pub fn majority(x: u32, y: u32, z: u32) -> u32
     ensures { result ≡ maj x y z }
 {
     ((x ^ y) & (y ^ z)) ^ y
 }
 
-// Four bytes, most significant first.
-fn word_of(a: u8, b: u8, c: u8, d: u8) -> u32
-    ensures { result ≡ ((a * 256 + b) * 256 + c) * 256 + d }
-{
-    (a as u32) * 16777216 + (b as u32) * 65536 + (c as u32) * 256 + (d as u32)
-}
-
 // The word of the four bytes from place i on.
+#[tactic(auto, unfolding(crate::specs::Words::number))]
 fn word_at(m: &[u8], i: usize) -> u32
     requires { i + 4 ≤ length m.now }
     ensures { result ≡ number 4 m.now i }
 {
-    word_of(m[i], m[i + 1], m[i + 2], m[i + 3])
+    u32::from_be_bytes([m[i], m[i + 1], m[i + 2], m[i + 3]])
 }
 
 // FIPS 180-4, 5.2: writes the first n words of m over w, from index at on.
+#[tactic(auto, using(crate::proofs::Laws::words_turn, crate::proofs::Laws::words_end), unfolding(crate::specs::Words::run))]
 pub fn load(w: &mut [u32], at: usize, m: &[u8], n: usize)
     requires { (at + n ≤ length w.old) × (n * 4 ≤ length m.now) }
     ensures { w.new ≡ sets w.old at (words 4 n m.now) }
 {
-    let mut i: usize = 0;
-    while i < n {
-        w[at + i] = word_at(m, i * 4);
-        i += 1;
+    for (i, word) in w[at..at + n].iter_mut().enumerate() {
+        *word = word_at(m, i * 4);
     }
 }
 
 // Writes the word x at place at of d, most significant byte first, and says the place after it.
+#[tactic(auto, unfolding(crate::specs::Words::bytes))]
 pub fn put_word(d: &mut [u8], at: usize, x: u32) -> usize
     requires { Room d.old at (bytes 4 x) }
     ensures { Put d.old at (bytes 4 x) result d.new }
 {
-    d[at] = ((x >> 24) % 256) as u8;
-    d[at + 1] = ((x >> 16) % 256) as u8;
-    d[at + 2] = ((x >> 8) % 256) as u8;
-    d[at + 3] = (x % 256) as u8;
-    at + 4
+    wire::put_bytes(d, at, &x.to_be_bytes())
 }
 
 // Writes four words at place at of d, and says the place after them.
+#[tactic(auto, using(wire::proofs::Laws::room_first, wire::proofs::Laws::room_then))]
 pub fn put_four(d: &mut [u8], at: usize, x: u32, y: u32, z: u32, u: u32) -> usize
     requires { Room d.old at (bytes 4 x ++ (bytes 4 y ++ (bytes 4 z ++ bytes 4 u))) }
     ensures { Put d.old at (bytes 4 x ++ (bytes 4 y ++ (bytes 4 z ++ bytes 4 u))) result d.new }
@@ -79,16 +72,15 @@ pub fn put_four(d: &mut [u8], at: usize, x: u32, y: u32, z: u32, u: u32) -> usiz
 }
 
 // Writes the w low bytes of n at place at of d, most significant first, and says the place after them.
+#[tactic(auto, using(crate::proofs::Laws::length_bytes, crate::proofs::Laws::bytes_turn), unfolding(crate::specs::Words::bytes))]
 fn put_be(d: &mut [u8], at: usize, w: usize, n: u64) -> usize
     requires { Room d.old at (bytes w n) }
     ensures { Put d.old at (bytes w n) result d.new }
 {
     let mut v = n;
-    let mut i: usize = w;
-    while 0 < i {
-        i -= 1;
+    for i in (0..w).rev() {
         d[at + i] = (v % 256) as u8;
-        v = v / 256;
+        v /= 256;
     }
     at + w
 }
@@ -104,6 +96,7 @@ fn put_length(d: &mut [u8], at: usize, l: usize, n: u64) -> usize
 
 // FIPS 180-4, 5.1: writes what is left of a message of n bytes, and its padding, at the start of d: the byte 128, z zero bytes and the
 // length in a field of l bytes. Says the place after them.
+#[tactic(auto, using(wire::proofs::Laws::room_first, wire::proofs::Laws::room_then), unfolding(crate::specs::Padding::ending))]
 pub fn pad(d: &mut [u8], rest: &[u8], z: usize, l: usize, n: u64) -> usize
     requires { (0 < l) × Room d.old 0 (rest.now ++ ending z l n) }
     ensures { Put d.old 0 (rest.now ++ ending z l n) result d.new }

@@ -226,12 +226,16 @@ le_turn bs i v h =
     rw (take_more_set bs i (v % 256) h, length-set bs i (v % 256), e) (append_assoc (take i bs) ((v % 256) ∷ []) (le (length bs - (i + 1)) (v / 256)))
 
 -- the end of `put_le`: every byte is written
-pub le_end : (bs x : List ℕ) (i v : ℕ) → length bs ≤ i → take i bs ++ le (length bs - i) v ≡ x → bs ≡ x
+pub le_end : (d bs : List ℕ) (at w n i v : ℕ) → Room d at (le w n) → length bs ≡ w → w ≤ i → take i bs ++ le (length bs - i) v ≡ le w n
+    → Put d at (le w n) (at + w) (take at d ++ (bs ++ drop (at + w - at) (drop at d)))
 unfolding le
-le_end bs x i v h e =
+le_end d bs at w n i v h l k e =
     let z : length bs - i ≡ 0 = omega arith in
-    let t : bs ++ le 0 v ≡ x = rw (take_all i bs h, z) at e in
-    sym (append-nil bs) ∙ t
+    let t : bs ++ le 0 v ≡ le w n = rw (take_all i bs (omega arith), z) at e in
+    put_over d at (at + w) (at + w) h (omega (arith, length_le w n)) (omega (arith, length_le w n)) (sym (append-nil bs) ∙ t)
+
+-- what the check tries at each goal of `put_le`
+pub ruleset writing = (length_le, le_turn, le_end)
 
 -- the number of bytes with one more behind them
 unle_push : (bs : List ℕ) (b : ℕ) → unle (bs ++ b ∷ []) ≡ unle bs + 256 ^ length bs * b
@@ -270,4 +274,4 @@ turn_fits bs b v s at w h k e i =
     omega (arith, num_lt s at w h, pow-le-pow_right {n = 256} (omega arith) k)
 
 -- what the check tries at each goal of `get_le`
-pub ruleset reading = (num_begin, num_turn, num_end, num_lt, bytes_known)
+pub ruleset reading = (num_begin, num_turn, num_end, turn_fits, num_lt, bytes_known)

@@ -6,7 +6,7 @@ ghost use Rattle.std.specs.Prelude.{◌≡◌, ◌+◌, ◌≤◌, ◌<◌, ◌^
 ghost use Rattle.wire.specs.Bytes.{le, num, part, Put, Room};
 
 // Writes the w low bytes of n from place at of d on, and says the place after them.
-#[tactic(auto, using(crate::proofs::Laws::length_le, crate::proofs::Laws::le_turn))]
+#[tactic(auto, using(crate::proofs::Laws::writing))]
 pub fn put_le(d: &mut [u8], at: usize, w: usize, n: u64) -> usize
     requires { Room d.old at (le w n) }
     ensures { Put d.old at (le w n) result d.new }

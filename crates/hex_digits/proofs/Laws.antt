@@ -1,10 +1,7 @@
--- How many digits there are, and a turn of the loop that writes them. Assumes nothing.
-use mathlib.Core.Path.{◌≡◌, refl, ap, ◌∙◌}
-use mathlib.Core.List.{List, [], ◌∷◌}
-use Prim.Native.Nat.{ℕ, suc, ◌+◌, ◌*◌, ◌/◌, ◌%◌, ◌≤◌, ◌<◌}
-use native.Mathlib.Omega.{arith}
-use lib.ListN.{length, set, drop, get_or, drop_of_length-le}
-use lib.Seq.{sets, drop-cons}
+-- How many digits there are, and the loop that writes them. Assumes nothing.
+use Rattle.std.proofs.Common.{◌≡◌, ℕ, suc, ◌+◌, ◌*◌, ◌/◌, ◌%◌, ◌≤◌, ◌<◌, List, [], ◌∷◌, length, set, drop, get_or, refl, ap, ◌∙◌, arith, drop-cons, drop_of_length-le, length-set}
+use Rattle.std.proofs.lemmas.List.Edits.{sets}
+use Rattle.wire.specs.Bytes.{Put}
 use Rattle.hex_digits.specs.Hex.{digit_of, hex_of}
 
 pub length_hex : (s : List ℕ) → length (hex_of s) ≡ length s * 2
@@ -22,6 +19,11 @@ hex_turn d s at i h p q =
     let b : at + suc i * 2 ≡ suc (suc (at + i * 2)) = omega arith in
     rw (drop-cons s i 0 h, k, a, b, p, q)
 
-pub hex_end : (d x s : List ℕ) (at i : ℕ) → length s ≤ i → sets d (at + i * 2) (hex_of (drop i s)) ≡ x → d ≡ x
+-- the end of the loop: nothing is left to write
+pub hex_end : (d₀ d s : List ℕ) (at i : ℕ) → length s ≤ i → sets d (at + i * 2) (hex_of (drop i s)) ≡ sets d₀ at (hex_of s)
+    → Put d₀ at (hex_of s) (at + length s * 2) d
 unfolding hex_of
-hex_end d x s at i h e = rw (drop_of_length-le s h) at e
+hex_end d₀ d s at i h e = record { next = rw length_hex; bytes = rw (drop_of_length-le s h) at e }
+
+-- what the check tries at each goal of `put_hex`
+pub ruleset writing = (length_hex, length-set, hex_turn, hex_end)

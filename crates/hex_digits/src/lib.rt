@@ -10,20 +10,18 @@ fn digit(n: u8) -> u8
     requires { n < 16 }
     ensures { result ≡ digit_of n }
 {
-    if n < 10 { 48 + n } else { 87 + n }
+    if n < 10 { b'0' + n } else { b'a' + n - 10 }
 }
 
 // Writes the digits of s from place at of d on, and says the place after them.
+#[tactic(auto, using(crate::proofs::Laws::writing))]
 pub fn put_hex(d: &mut [u8], at: usize, s: &[u8]) -> usize
     requires { Room d.old at (hex_of s.now) }
     ensures { Put d.old at (hex_of s.now) result d.new }
 {
-    let mut i: usize = 0;
-    while i < s.len() {
-        let b = s[i];
-        d[at + i * 2] = digit(b / 16);
-        d[at + i * 2 + 1] = digit(b % 16);
-        i += 1;
+    for (i, byte) in s.iter().enumerate() {
+        d[at + i * 2] = digit(byte / 16);
+        d[at + i * 2 + 1] = digit(byte % 16);
     }
     at + s.len() * 2
 }

@@ -1,20 +1,25 @@
 -- The rounds in their quarters, the schedule, the digest's bytes, and the block of a register and a digest. Assumes nothing.
-use mathlib.Core.Path.{◌≡◌, refl, sym, ap, ◌∙◌}
-use mathlib.Core.List.{List, ◌++◌, append_assoc}
-use Prim.Native.Nat.{ℕ, ◌+◌, ◌-◌, ◌*◌, ◌/◌, ◌<◌, ◌≤◌}
-use native.Mathlib.Omega.{arith}
-use borrow.Author.Tests.{lt-ltb, le-ltb}
-use lib.ListN.{length, take, drop, get_or, length-append}
-use lib.Seq.{sets, get_or-take}
+use Rattle.std.proofs.Common.{◌≡◌, refl, sym, ap, ◌∙◌, List, ◌++◌, append_assoc, ℕ, ◌+◌, ◌-◌, ◌*◌, ◌/◌, ◌%◌, ◌^◌, ◌<◌, ◌≤◌, arith, lt-ltb, le-ltb, length, take, get_or, length-append, get_or-take, w32}
+use Rattle.std.proofs.lemmas.List.Edits.{sets}
+use Rattle.std.proofs.lemmas.Nat.{or_comm}
+use Rattle.std.specs.Int.{rotate_left}
 use Rattle.wire.specs.Bytes.{Put, Room}
-use Rattle.wire.proofs.Laws.{put_length, put_all}
-use Rattle.padding.specs.Words.{ch, maj, parity, run, steps, words, bytes}
-use Rattle.padding.specs.Padding.{blocks, padding, absorbed, finished}
-use Rattle.padding.proofs.Laws.{steps_more, steps_same, run_steps, take_sets, length_words, length_bytes, hash_one, in_parts, lent_rest}
+use Rattle.wire.proofs.Laws.{put_length, put_all, then}
+use Rattle.padding.specs.Words.{rotl, ch, maj, parity, run, steps, words, bytes}
+use Rattle.padding.specs.Padding.{blocks, padding}
+use Rattle.padding.proofs.Laws.{steps_more, steps_same, run_steps, take_sets, length_words, length_bytes, hash_one}
 use Rattle.sha1_hash.specs.Sha1.{next, step, step_of, turn, f, K, expanded, rounds, compress, output, H₀, sha1}
 use Rattle.sha1_hash.specs.declared.State.{State}
 
 -- ---- the rounds
+
+-- std's rotation to the left is the standard's
+pub rotated : (n x : ℕ) → 0 < n → n < 32 → rotate_left w32 x n ≡ rotl 32 n x
+rotated n x g h =
+    let a : n % 32 ≡ n = omega arith in
+    let b : (32 - n) % 32 ≡ 32 - n = omega arith in
+    let d : 32 - (32 - n) ≡ n = omega arith in
+    rw (a, b, d) (or_comm (x * 2 ^ n % 2 ^ 32) (x / 2 ^ (32 - n)))
 
 -- a turn of a loop over rounds whose function is g and whose constant is k
 pub one_turn : (g : ℕ → ℕ → ℕ → ℕ) (k : ℕ) (ws : List ℕ) (t i : ℕ) (s v r : State) (x : ℕ) → r ≡ turn x k (get_or ws (t + i) 0) v → x ≡ g v.b v.c v.d
@@ -80,29 +85,21 @@ pub length_output : (s : State) → length (output s) ≡ 20
 unfolding output
 length_output s = simp (length-append, length_bytes)
 
--- 20 bytes are room for a hash value, and it covers them
-pub room_output : (s : State) (d : List ℕ) → length d ≡ 20 → Room d 0 (output s)
-room_output s d l = record { fits = omega (arith, length_output s) }
+-- 20 bytes have room for any four words, and behind them for any fifth
+module _ {d : List ℕ} (l : length d ≡ 20) (x y z u : ℕ) where
+  pub room_four : Room d 0 (bytes 4 x ++ (bytes 4 y ++ (bytes 4 z ++ bytes 4 u)))
+  room_four = record { fits = simp (length-append, length_bytes) (omega arith) }
 
-pub put_output : (s : State) {d d' : List ℕ} {r : ℕ} → length d ≡ 20 → Put d 0 (output s) r d' → d' ≡ output s
-put_output s l p = put_all p (length_output s ∙ sym l)
+  pub room_fifth : (v : ℕ) {d' : List ℕ} {j : ℕ} → Put d 0 (bytes 4 x ++ (bytes 4 y ++ (bytes 4 z ++ bytes 4 u))) j d' → Room d' j (bytes 4 v)
+  room_fifth v p = record { fits = simp length_bytes (omega (arith, put_length p, simp (length-append, length_bytes) at p.next)) }
 
--- room for a hash value is room for any four words, and behind them for any fifth
-module _ (s : State) (x y z u : ℕ) where
-  pub room_four : {d : List ℕ} → Room d 0 (output s) → Room d 0 (bytes 4 x ++ (bytes 4 y ++ (bytes 4 z ++ bytes 4 u)))
-  room_four h = record { fits = simp (length-append, length_bytes) (omega (arith, length_output s)) }
-
-  pub room_fifth : (v : ℕ) {d d' : List ℕ} {j : ℕ} → Room d 0 (output s) → Put d 0 (bytes 4 x ++ (bytes 4 y ++ (bytes 4 z ++ bytes 4 u))) j d' → Room d' j (bytes 4 v)
-  room_fifth v h p = record { fits = simp length_bytes (omega (arith, length_output s, put_length p, simp (length-append, length_bytes) at p.next)) }
+-- a hash value's five words cover 20 bytes
+pub put_output : (s : State) {d d₁ d₂ : List ℕ} {j k : ℕ} → length d ≡ 20 → Put d 0 (bytes 4 s.a ++ (bytes 4 s.b ++ (bytes 4 s.c ++ bytes 4 s.d))) j d₁
+    → Put d₁ j (bytes 4 s.e) k d₂ → d₂ ≡ output s
+put_output s l p q = put_all (rw (← output_is s) at (then p q)) (length_output s ∙ sym l)
 
 -- 5.1: 40 bytes and their padding are one block
 pub forty : (m : List ℕ) (s : State) → length m ≡ 40 → s ≡ compress H₀ (m ++ padding 64 8 40) → output s ≡ sha1 m
 unfolding sha1 blocks
 forty m s l e =
     ap output (e ∙ ap (λ (n : ℕ). compress H₀ (m ++ padding 64 8 n)) (sym l) ∙ sym (hash_one compress 64 8 m H₀ (omega arith) (rw l)))
-
--- whole blocks, and then what is left
-pub in_two : (m r : List ℕ) (s v : State) → s ≡ H₀ → v ≡ absorbed compress 64 m s
-    → r ≡ output (finished compress 64 8 (length m) (take (length m - length m / 64 * 64) (drop (length m / 64 * 64) m)) v) → r ≡ sha1 m
-unfolding sha1
-in_two m r s v p q e = e ∙ (rw (lent_rest (length m / 64 * 64) m, q, p)) ∙ ap output (in_parts compress 64 8 m H₀ (omega arith))

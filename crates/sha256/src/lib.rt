@@ -1,12 +1,14 @@
 // SHA-256 (FIPS 180-4, 6.2) of any lent slice, and of a register and a digest where they lie.
 #![tactic(auto)]
 
-ghost use Rattle.std.specs.Prelude.{◌≡◌, ◌++◌, ◌+◌, ◌%◌, ◌<◌, length, take, set};
-ghost use Rattle.wire.specs.Bytes.{Put, Room};
-ghost use Rattle.padding.specs.Words.{plus, words};
-ghost use Rattle.padding.specs.Padding.{padding, absorbed, finished};
-ghost use Rattle.padding.specs.Sha2.{next, step, round, join, expanded, rounds, compress, output};
-ghost use Rattle.sha256.specs.Sha256.{K, P, H₀, value, sha256};
+ghost use Rattle.std.specs.Prelude.{◌≡◌, ◌++◌, ◌+◌, ◌<◌, length, take, set};
+ghost use Rattle.std.proofs.Common.{lit<};
+ghost use Rattle.padding.specs.Words.{plus};
+ghost use Rattle.padding.specs.Padding.{padding};
+ghost use Rattle.padding.specs.Sha2.{Eight, next, step, round, join, expanded, rounds, compress, output};
+ghost use Rattle.sha256.specs.Sha256.{P, H₀, value, sha256};
+
+use block_hash::BlockHash;
 
 // FIPS 180-4, 4.2.2.
 const ROUND: [u32; 64] = [
@@ -45,236 +47,205 @@ pub struct State {
     pub h: u32,
 }
 
+impl State {
+    // 6.2.2, 3: a round with the constant k and the word w.
+    fn turn(self, k: u32, w: u32) -> State
+        ensures { value result ≡ round P k w (value self) }
+    {
+        let t1 = self
+            .h
+            .wrapping_add(big1(self.e))
+            .wrapping_add(padding::choose(self.e, self.f, self.g))
+            .wrapping_add(k)
+            .wrapping_add(w);
+        let t2 = big0(self.a).wrapping_add(padding::majority(self.a, self.b, self.c));
+        State {
+            a: t1.wrapping_add(t2),
+            b: self.a,
+            c: self.b,
+            d: self.c,
+            e: self.d.wrapping_add(t1),
+            f: self.e,
+            g: self.f,
+            h: self.g,
+        }
+    }
+
+    // 6.2.2, 4.
+    fn feed(self, t: State) -> State
+        ensures { value result ≡ join P (value self) (value t) }
+    {
+        State {
+            a: self.a.wrapping_add(t.a),
+            b: self.b.wrapping_add(t.b),
+            c: self.c.wrapping_add(t.c),
+            d: self.d.wrapping_add(t.d),
+            e: self.e.wrapping_add(t.e),
+            f: self.f.wrapping_add(t.f),
+            g: self.g.wrapping_add(t.g),
+            h: self.h.wrapping_add(t.h),
+        }
+    }
+}
+
 fn big0(x: u32) -> u32
     ensures { result ≡ P.Σ₀ x }
 {
-    ((x >> 2) | (x << 30)) ^ ((x >> 13) | (x << 19)) ^ ((x >> 22) | (x << 10))
+    x.rotate_right(2) ^ x.rotate_right(13) ^ x.rotate_right(22)
 }
 
 fn big1(x: u32) -> u32
     ensures { result ≡ P.Σ₁ x }
 {
-    ((x >> 6) | (x << 26)) ^ ((x >> 11) | (x << 21)) ^ ((x >> 25) | (x << 7))
+    x.rotate_right(6) ^ x.rotate_right(11) ^ x.rotate_right(25)
 }
 
 fn small0(x: u32) -> u32
     ensures { result ≡ P.σ₀ x }
 {
-    ((x >> 7) | (x << 25)) ^ ((x >> 18) | (x << 14)) ^ (x >> 3)
+    x.rotate_right(7) ^ x.rotate_right(18) ^ (x >> 3)
 }
 
 fn small1(x: u32) -> u32
     ensures { result ≡ P.σ₁ x }
 {
-    ((x >> 17) | (x << 15)) ^ ((x >> 19) | (x << 13)) ^ (x >> 10)
-}
-
-// 6.2.2, 3: a round with the constant k and the word w.
-fn turn(s: State, k: u32, w: u32) -> State
-    ensures { value result ≡ round P k w (value s) }
-{
-    let t1 = padding::add(
-        padding::add(
-            padding::add(padding::add(s.h, big1(s.e)), padding::choose(s.e, s.f, s.g)),
-            k,
-        ),
-        w,
-    );
-    let t2 = padding::add(big0(s.a), padding::majority(s.a, s.b, s.c));
-    State {
-        a: padding::add(t1, t2),
-        b: s.a,
-        c: s.b,
-        d: s.c,
-        e: padding::add(s.d, t1),
-        f: s.e,
-        g: s.f,
-        h: s.g,
-    }
-}
-
-// 6.2.2, 4.
-fn feed(s: State, t: State) -> State
-    ensures { value result ≡ join P (value s) (value t) }
-{
-    State {
-        a: padding::add(s.a, t.a),
-        b: padding::add(s.b, t.b),
-        c: padding::add(s.c, t.c),
-        d: padding::add(s.d, t.d),
-        e: padding::add(s.e, t.e),
-        f: padding::add(s.f, t.f),
-        g: padding::add(s.g, t.g),
-        h: padding::add(s.h, t.h),
-    }
+    x.rotate_right(17) ^ x.rotate_right(19) ^ (x >> 10)
 }
 
 // 6.2.2, 1: the word that four earlier ones give.
 fn following(w14: u32, w9: u32, w1: u32, w0: u32) -> u32
     ensures { result ≡ plus 32 (plus 32 (plus 32 (P.σ₁ w14) w9) (P.σ₀ w1)) w0 }
 {
-    padding::add(padding::add(padding::add(small1(w14), w9), small0(w1)), w0)
+    small1(w14)
+        .wrapping_add(w9)
+        .wrapping_add(small0(w1))
+        .wrapping_add(w0)
 }
 
 // 6.2.2, 1: the word t + 16 of the schedule.
-fn expand_one(w: &mut [u32], t: usize)
-    requires { (length w.old ≡ 64) × (t < 48) }
+fn expand_one(w: &mut [u32; 64], t: usize)
+    requires { t < 48 }
     ensures { w.new ≡ set w.old (t + 16) (next P t w.old) }
 {
     w[t + 16] = following(w[t + 14], w[t + 9], w[t + 1], w[t]);
 }
 
 // 6.2.2, 1: the schedule of the sixteen words that stand in front. Four words a turn are kept in the processor's registers.
-fn expand(w: &mut [u32])
-    requires { length w.old ≡ 64 }
+fn expand(w: &mut [u32; 64])
     ensures { w.new ≡ expanded P (take 16 w.old) }
 {
-    let mut i: usize = 0;
-    while i < 12 {
+    for i in 0..12 {
         let t = i * 4;
         expand_one(w, t);
         expand_one(w, t + 1);
         expand_one(w, t + 2);
         expand_one(w, t + 3);
-        i += 1;
     }
 }
 
 // Rounds t to t + 3: the working variables change places without a move.
-fn four_rounds(w: &[u32], k: &[u32], t: usize, s: State) -> State
-    requires { (length w.now ≡ 64) × (k.now ≡ K) × (t + 3 < 64) }
+fn four_rounds(w: &[u32; 64], t: usize, s: State) -> State
+    requires { t + 3 < 64 }
     ensures { value result ≡ step P w.now (t + 3) (step P w.now (t + 2) (step P w.now (t + 1) (step P w.now t (value s)))) }
 {
-    let a = turn(s, k[t], w[t]);
-    let b = turn(a, k[t + 1], w[t + 1]);
-    let c = turn(b, k[t + 2], w[t + 2]);
-    turn(c, k[t + 3], w[t + 3])
+    s.turn(ROUND[t], w[t])
+        .turn(ROUND[t + 1], w[t + 1])
+        .turn(ROUND[t + 2], w[t + 2])
+        .turn(ROUND[t + 3], w[t + 3])
 }
 
-// 6.2.2, 2 to 4: the hash value after s and a schedule. The constants are lent, since a table is copied at each use.
-fn all_rounds(w: &[u32], k: &[u32], s: State) -> State
-    requires { (length w.now ≡ 64) × (k.now ≡ K) }
+// 6.2.2, 2 to 4: the hash value after s and a schedule.
+fn all_rounds(w: &[u32; 64], s: State) -> State
     ensures { value result ≡ rounds P w.now (value s) }
 {
     let mut v = s;
-    let mut i: usize = 0;
-    while i < 16 {
-        v = four_rounds(w, k, i * 4, v);
-        i += 1;
+    for i in 0..16 {
+        v = four_rounds(w, i * 4, v);
     }
-    feed(v, s)
+    v.feed(s)
 }
 
-// 6.2.2: the hash value after s and the block m.
-fn block(w: &mut [u32], k: &[u32], s: State, m: &[u8]) -> State
-    requires { (length w.old ≡ 64) × (k.now ≡ K) × (length m.now ≡ 64) }
-    ensures { value result ≡ compress P (value s) m.now }
-{
-    padding::load(w, 0, m, 16);
-    expand(w);
-    all_rounds(w, k, s)
-}
+impl BlockHash for State {
+    type Schedule = [u32; 64];
 
-fn absorb_with(w: &mut [u32], k: &[u32], s: State, m: &[u8]) -> State
-    requires { (length w.old ≡ 64) × (k.now ≡ K) }
-    ensures { value result ≡ absorbed (compress P) 64 m.now (value s) }
-{
-    let n = m.len() / 64;
-    let mut v = s;
-    let mut i: usize = 0;
-    while i < n {
-        let a = i * 64;
-        let e = a + 64;
-        v = block(w, k, v, &m[a..e]);
-        i += 1;
+    ghost Value = { Eight };
+
+    ghost value = { value };
+
+    ghost initial = { H₀ };
+
+    ghost compress = { compress P };
+
+    ghost output = { output P };
+
+    ghost BLOCK_SIZE = { 64 };
+
+    ghost FIELD_SIZE = { 8 };
+
+    ghost DIGEST_SIZE = { 32 };
+
+    const BLOCK_SIZE: usize = 64;
+
+    const FIELD_SIZE: usize = 8;
+
+    const DIGEST_SIZE: usize = 32;
+
+    ghost field_fits = { (lit< tt, lit< tt) };
+
+    fn schedule() -> [u32; 64] {
+        [0; 64]
     }
-    v
-}
 
-// 5.3.3: the hash value before any block.
-pub fn start() -> State
-    ensures { value result ≡ H₀ }
-{
-    State {
-        a: 0x6a09e667,
-        b: 0xbb67ae85,
-        c: 0x3c6ef372,
-        d: 0xa54ff53a,
-        e: 0x510e527f,
-        f: 0x9b05688c,
-        g: 0x1f83d9ab,
-        h: 0x5be0cd19,
+    // 5.3.3.
+    fn start() -> State {
+        State {
+            a: 0x6a09e667,
+            b: 0xbb67ae85,
+            c: 0x3c6ef372,
+            d: 0xa54ff53a,
+            e: 0x510e527f,
+            f: 0x9b05688c,
+            g: 0x1f83d9ab,
+            h: 0x5be0cd19,
+        }
     }
-}
 
-// The hash value after the whole blocks of m.
-pub fn absorb(s: State, m: &[u8]) -> State
-    ensures { value result ≡ absorbed (compress P) 64 m.now (value s) }
-{
-    let mut w = [0u32; 64];
-    let k = ROUND;
-    absorb_with(&mut w, &k, s, m)
-}
+    // 6.2.2.
+    fn block(self, w: &mut [u32; 64], m: &[u8]) -> State {
+        padding::load(w, 0, m, 16);
+        expand(w);
+        all_rounds(w, self)
+    }
 
-// Writes the hash value over the first 32 bytes of d, and says the place after them.
-fn store(d: &mut [u8], s: State) -> usize
-    requires { Room d.old 0 (output P (value s)) }
-    ensures { Put d.old 0 (output P (value s)) result d.new }
-{
-    let at = padding::put_four(d, 0, s.a, s.b, s.c, s.d);
-    padding::put_four(d, at, s.e, s.f, s.g, s.h)
-}
-
-// The digest of a message of n bytes whose whole blocks gave s, and whose other bytes are rest.
-pub fn finish(s: State, rest: &[u8], n: u64) -> [u8; 32]
-    requires { n % 64 ≡ length rest.now }
-    ensures { result ≡ output P (finished (compress P) 64 8 n rest.now (value s)) }
-{
-    let l = rest.len();
-    let end = (l + 8) / 64 * 64 + 64;
-    let mut t = [0u8; 128];
-    padding::pad(&mut t, rest, end - 9 - l, 8, n);
-    let v = absorb(s, &t[..end]);
-    let mut r = [0u8; 32];
-    store(&mut r, v);
-    r
+    fn store(self, d: &mut [u8]) {
+        let at = padding::put_four(d, 0, self.a, self.b, self.c, self.d);
+        padding::put_four(d, at, self.e, self.f, self.g, self.h);
+    }
 }
 
 // FIPS 180-4, 6.2: the digest of a message.
 pub fn digest(m: &[u8]) -> [u8; 32]
     ensures { result ≡ sha256 m.now }
 {
-    let n = m.len();
-    let full = n / 64 * 64;
-    finish(absorb(start(), m), &m[full..], n as u64)
+    block_hash::digest::<State, 128, 32>(m)
 }
 
 // The hash value after the block of a register and a digest.
-fn joined(w: &mut [u32], k: &[u32], register: &[u8], digest: &[u8]) -> State
-    requires { (length w.old ≡ 64) × (k.now ≡ K) × (length register.now ≡ 32) × (length digest.now ≡ 32) }
+fn joined(w: &mut [u32; 64], register: &[u8], digest: &[u8]) -> State
+    requires { (length register.now ≡ 32) × (length digest.now ≡ 32) }
     ensures { value result ≡ compress P H₀ (register.now ++ digest.now) }
 {
     padding::load(w, 0, register, 8);
     padding::load(w, 8, digest, 8);
     expand(w);
-    all_rounds(w, k, start())
+    all_rounds(w, State::start())
 }
 
 // The hash value after the block that pads a message of 64 bytes.
-fn padded(k: &[u32], s: State) -> State
-    requires { k.now ≡ K }
+fn padded(s: State) -> State
     ensures { value result ≡ compress P (value s) (padding 64 8 64) }
 {
-    let p = PADDED;
-    all_rounds(&p, k, s)
-}
-
-fn extend_with(w: &mut [u32], k: &[u32], register: &mut [u8], digest: &[u8])
-    requires { (length w.old ≡ 64) × (k.now ≡ K) × (length register.old ≡ 32) × (length digest.now ≡ 32) }
-    ensures { register.new ≡ sha256 (register.old ++ digest.now) }
-{
-    let s = joined(w, k, register, digest);
-    store(register, padded(k, s));
+    all_rounds(&PADDED, s)
 }
 
 // The register becomes the digest of the register's bytes and then the digest's.
@@ -282,7 +253,6 @@ pub fn extend(register: &mut [u8], digest: &[u8])
     requires { (length register.old ≡ 32) × (length digest.now ≡ 32) }
     ensures { register.new ≡ sha256 (register.old ++ digest.now) }
 {
-    let mut w = [0u32; 64];
-    let k = ROUND;
-    extend_with(&mut w, &k, register, digest);
+    let s = joined(&mut State::schedule(), register, digest);
+    padded(s).store(register);
 }

@@ -1,6 +1,7 @@
--- `digest`: the whole blocks and then the rest, padded, are the padded message.
-use Rattle.sha1_hash.proofs.Laws.{in_two}
+use Rattle.std.proofs.Common.{rules}
+use Rattle.sha1_hash.specs.Sha1.{sha1}
 use Rattle.sha1_hash.proofs.digest.Goals as goal
 
 pub returns : goal.returns
-returns c = in_two c.args.m.now _ _ _ c.start.ensures c.absorb.ensures c.finish.ensures
+unfolding sha1
+returns c = search rules

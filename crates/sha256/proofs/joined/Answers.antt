@@ -1,25 +1,16 @@
--- `sha256::joined` meets its contract. The words of register and digest, loaded one behind the other, are those of the joined bytes. Assumes nothing.
+-- `joined`: the words of register and digest, loaded one behind the other, are those of the joined bytes.
+use Rattle.std.proofs.Common.{◌++◌, ap, ◌∙◌, arith}
+use Rattle.padding.specs.Sha2.{rounds}
 use Rattle.padding.proofs.Laws.{words_behind}
-use lib.ListN.{take}
-use mathlib.Core.List.{◌++◌}
-use mathlib.Core.Path.{◌≡◌, ap, ◌∙◌}
-use Rattle.sha256.specs.Sha256.{P, value}
-use Rattle.padding.proofs.Laws.{take_sets, length_words}
-use Rattle.padding.specs.Sha2.{expanded, rounds, compress}
-use Rattle.padding.specs.Words.{words}
-use lib.ListN.{take}
-use mathlib.Core.List.{◌++◌}
-use mathlib.Core.Path.{◌≡◌, ap, ◌∙◌}
-use native.Mathlib.Omega.{arith}
+use Rattle.sha256.specs.Sha256.{P, H₀}
+use Rattle.sha256.proofs.Laws.{compressed}
 use Rattle.sha256.proofs.joined.Goals as goal
 
 pub returns : goal.returns
-unfolding compress
 returns c =
-    let m = c.args.register.now ++ c.args.digest.now in
-    let w = c.args.w.now in
-    let l : take 16 c.load-2.new.w ≡ words 4 16 m =
-    ap (take 16) (words_behind 4 8 8 0 c.args.register.now c.args.digest.now w _ _ c.requires.2 c.load.ensures c.load-2.ensures)
-    ∙ take_sets 16 w (words 4 16 m) (length_words 4 16 m) (omega (arith, c.requires.0)) in
-    c.all_rounds.ensures ∙ ap (λ ws. rounds P ws (value c.start.result)) (c.expand.ensures ∙ ap (expanded P) l)
-    ∙ ap (rounds P (expanded P (words 4 16 m))) c.start.ensures
+    let register = c.args.register.now in
+    let digest = c.args.digest.now in
+    compressed c.args.w.now _ _ (register ++ digest) H₀ _ (omega arith)
+    (words_behind 4 8 8 0 register digest c.args.w.now _ _ c.requires.0 c.load.ensures c.load-2.ensures)
+    c.expand.ensures
+    (c.all_rounds.ensures ∙ ap (rounds P _) c.start.ensures)

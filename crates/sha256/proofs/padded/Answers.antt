@@ -1,4 +1,4 @@
--- `sha256::padded` meets its contract. The table is the schedule of the padding, by computation. Assumes nothing.
+-- `padded`: the table is the schedule of the padding, by computation.
 use Rattle.padding.specs.Sha2.{expanded, compress}
 use Rattle.padding.specs.Padding.{padding, ending, zeros, blocks}
 use Rattle.padding.specs.Words.{run, bytes, number}

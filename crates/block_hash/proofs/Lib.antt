@@ -1,0 +1,2 @@
+-- the laws that the proofs share
+pub mod Laws

@@ -1,7 +1,0 @@
--- `block`: the block's words, expanded and worked through, are its compression.
-use Rattle.sha1_hash.proofs.Laws.{compressed}
-use Rattle.sha1_hash.proofs.block.Goals as goal
-
-pub returns : goal.returns
-returns c =
-    compressed c.args.w.now _ _ c.args.m.now c.args.s _ c.requires.0 c.load.ensures c.expand.ensures c.all_rounds.ensures

@@ -1,8 +1,0 @@
--- `start`: the five words are the standard's.
-use mathlib.Core.Path.{refl}
-use Rattle.sha1_hash.specs.Sha1.{H₀}
-use Rattle.sha1_hash.proofs.start.Goals as goal
-
-pub returns : goal.returns
-unfolding H₀
-returns c = refl

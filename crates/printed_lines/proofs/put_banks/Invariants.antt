@@ -1,14 +1,10 @@
--- `printed_lines::put_banks` meets its contract. The loop's invariant: what is left to write are the lines of the active banks from row i on. Assumes nothing.
-use Rattle.printed_lines.proofs.Laws.{lines_left}
+-- The loop's invariant: what is left to write are the lines of the banks that are still to come. Assumes nothing.
+use Rattle.std.proofs.Common.{map}
 use Rattle.wire.proofs.Laws.{Left}
-use Rattle.bank.specs.Bank.{rows}
-use lib.ListN.{length}
-use mathlib.Core.Path.{◌≡◌}
-use Prim.Native.Nat.{◌-◌, ◌≤◌}
+use Rattle.bank.specs.Bank.{banks}
+use Rattle.bank.specs.Named.{row}
+use Rattle.printed_lines.specs.Lines.{banks_lines}
 use Rattle.printed_lines.proofs.put_banks.Given as goal
 
-abbrev pub invariant-loop-i : goal.invariant-loop-i
-invariant-loop-i l = (l.i ≤ rows) × (length l.d ≡ length l.initial.d) × Left l.initial.d l.at (lines_left l.bitmap 0 l.registers) l.d l.p (lines_left l.bitmap l.i l.registers)
-
-abbrev pub decreases-loop-i : goal.decreases-loop-i
-decreases-loop-i l = rows - l.i
+abbrev pub invariant-loop-bank : goal.invariant-loop-bank
+invariant-loop-bank l = Left l.initial.d l.at (banks_lines (banks l.bitmap) l.registers.bytes) l.d l.p (banks_lines (map row l.bank-iterator) l.registers.bytes)

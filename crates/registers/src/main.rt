@@ -1,9 +1,10 @@
 // Reads a log of format 2 from standard input and prints its registers, or why it is refused (document 01, Program).
 #![tactic(auto)]
 
-ghost use Rattle.std.specs.Prelude.{◌≡◌, length};
+ghost use Rattle.std.specs.Prelude.{◌≡◌, ◌≢◌, ◌<◌, ◌≤◌, length, take, IfOk, IfErr};
 ghost use Rattle.std.specs.Io.{ReadsAtMost};
-ghost use Rattle.registers.specs.Read.{answered, Within};
+ghost use Rattle.std.specs.Io.KnownBytes.{Consumes, IsAtEnd, ReadConsumes};
+ghost use Rattle.std.specs.IoError.{error_kind};
 
 use std::io;
 use std::io::ErrorKind;
@@ -11,63 +12,38 @@ use std::io::ErrorKind;
 // The bytes of the longest log, and one more: a longer log is refused without its rest.
 const INPUT: usize = 65537;
 
-// What reading comes to: so many bytes, or a read failed.
-#[derive(Clone, Copy)]
-enum Read {
-    Bytes(usize),
-    Failed,
-}
-
-// Whether a read that answered got is to be tried again: a signal came before it moved a byte.
-fn is_interrupted(got: &io::Result<usize>) -> bool {
-    match got {
-        Ok(_) => false,
-        Err(e) => e.kind() == ErrorKind::Interrupted,
-    }
-}
-
-// Reads once, and again as long as a signal interrupts it. A proved loop has to end, so the tries are counted down from a number that no run
-// uses up; were it used up, the read has failed.
+// Reads once, and again as long as a signal interrupts it before it moved a byte. A proved loop has to end, so the tries are counted, to a number
+// that no run reaches; were it reached, the read has failed.
 fn read_some<R: io::Read>(reader: &mut R, buf: &mut [u8]) -> io::Result<usize>
-    ensures { ReadsAtMost result buf.new }
+    ensures bound { ReadsAtMost result buf.new }
+    ensures bytes { ReadConsumes (R.remaining reader.old) (R.remaining reader.new) result buf.new }
+    ensures retried { IfErr result (λ e. error_kind e ≢ ErrorKind.Interrupted) }
 {
-    let mut got = reader.read(buf);
-    let mut tries = u64::MAX;
-    while tries > 0 && is_interrupted(&got) {
-        got = reader.read(buf);
-        tries -= 1;
+    for _ in 0..u64::MAX {
+        match reader.read(buf) {
+            Err(e) if e.kind() == ErrorKind::Interrupted => {}
+            got => return got,
+        }
     }
-    got
+    Err(io::Error::from(ErrorKind::TimedOut))
 }
 
-// What a read that answered got has put into part.
-fn answer(got: io::Result<usize>, part: &[u8]) -> Read
-    ensures value { result ≡ answered got (length part.now) }
-    ensures within { Within result part.now }
+// Reads until buf is full or the input ends, and says how many bytes it took. A read that fails fails the whole.
+fn fill<R: io::Read>(reader: &mut R, buf: &mut [u8]) -> io::Result<usize>
+    ensures bound { ReadsAtMost result buf.new }
+    ensures bytes { IfOk result (λ n. Consumes (R.remaining reader.old) (R.remaining reader.new) (take n buf.new)) }
+    ensures end { IfOk result (λ n. n < length buf.new → IsAtEnd (R.remaining reader.new)) }
+    ensures retried { IfErr result (λ e. error_kind e ≢ ErrorKind.Interrupted) }
 {
-    match got {
-        Ok(n) => Read::Bytes(n.min(part.len())),
-        Err(_) => Read::Failed,
-    }
-}
-
-// Reads until buf is full or the input ends. A read that fails fails the whole.
-fn fill<R: io::Read>(reader: &mut R, buf: &mut [u8]) -> Read
-    ensures { Within result buf.new }
-{
-    let mut done: usize = 0;
+    let mut done = 0;
     while done < buf.len() {
-        let got = read_some(reader, &mut buf[done..]);
-        let read = answer(got, &buf[done..]);
-        let Read::Bytes(n) = read else {
-            return Read::Failed;
-        };
+        let n = read_some(reader, &mut buf[done..])?;
         if n == 0 {
             break;
         }
         done += n;
     }
-    Read::Bytes(done)
+    Ok(done)
 }
 
 // Prints what a log comes to.
@@ -83,10 +59,9 @@ fn show(rt: &(impl Print + Eprint), log: &[u8]) {
 
 fn main(rt: HostRuntime) {
     let mut log = [0u8; INPUT];
-    let input = fill(&mut rt.stdin(), &mut log);
-    match input {
-        Read::Bytes(n) => show(&rt, &log[..n]),
-        Read::Failed => {
+    match fill(&mut rt.stdin(), &mut log) {
+        Ok(n) => show(&rt, &log[..n]),
+        Err(_) => {
             let _ = eprintln!(rt;
                 "registers: standard input couldn't be read to its end: nothing is printed"
             );

@@ -1,7 +1,6 @@
 -- `registers::show` meets its contract: what `print` wrote ends in its buffer. Assumes nothing.
+use Rattle.std.proofs.Common.{sym, length-take-le}
 use Rattle.printed.proofs.Prints.{written_fits}
-use lib.Seq.{length-take-le}
-use mathlib.Core.Path.{sym}
 use Rattle.registers.proofs.show.Goals as goal
 
 pub slice_bounds-out-end : goal.slice_bounds-out-end

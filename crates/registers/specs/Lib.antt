@@ -1,2 +1,0 @@
--- what reading an input answers
-pub mod Read

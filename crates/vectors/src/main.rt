@@ -2,97 +2,98 @@
 // second/ and sha1sum and sha256sum give the same list.
 #![tactic(auto)]
 
-ghost use Rattle.std.specs.Prelude.{◌≡◌, ◌≤◌, length};
-ghost use Rattle.std.proofs.lemmas.List.Edits.{sets};
-ghost use Rattle.wire.specs.Bytes.{Put, Room};
-ghost use Rattle.vectors.specs.Line.{head_of, line_of, pattern_of};
+ghost use Rattle.std.specs.Prelude.{◌≡◌, ◌≤◌, length, Some};
+ghost use Rattle.std.specs.Option.{option_map};
+ghost use Rattle.hex_digits.specs.Hex.{hex_of};
+ghost use Rattle.vectors.specs.Line.{line_of, pattern_of};
 
-use std::io;
+use std::{fmt, io};
 
-fn put_head(d: &mut [u8], label: &[u8], name: &[u8]) -> usize
-    requires { Room d.old 0 (head_of label.now name.now) }
-    ensures { Put d.old 0 (head_of label.now name.now) result d.new }
-{
-    let a = wire::put_bytes(d, 0, label);
-    let b = wire::put_fill(d, a, 1, 32);
-    let c = wire::put_bytes(d, b, name);
-    wire::put_fill(d, c, 1, 32)
+// The messages that have a name.
+const NAMED: [(&str, &[u8]); 6] = [
+    ("empty", b""),
+    ("zeros", &[0; 4]),
+    ("abc", b"abc"),
+    (
+        "fips448",
+        b"abcdbcdecdefdefgefghfghighijhijkijkljklmklmnlmnomnopnopq",
+    ),
+    (
+        "fips896",
+        b"abcdefghbcdefghicdefghijdefghijkefghijklfghijklmghijklmnhijklmnoijklmnopjklmnopqklmnopqrlmnopqrsmnopqrstnopqrstu",
+    ),
+    ("fox", b"The quick brown fox jumps over the lazy dog"),
+];
+
+// Bytes that print as their hexadecimal digits.
+#[derive(Drop)]
+struct Hex<'a>(&'a [u8]);
+
+impl fmt::Display for Hex<'_> {
+    ghost output = { λ h. Some (hex_of h.0.now) };
+
+    fn fmt<W: fmt::Write>(&self, f: &mut fmt::Formatter<W>) -> fmt::Result {
+        for &byte in self.0 {
+            write!(f, "{byte:02x}")?;
+        }
+        Ok(())
+    }
 }
 
-fn put_line(d: &mut [u8], label: &[u8], name: &[u8], digest: &[u8]) -> usize
-    requires { Room d.old 0 (line_of label.now name.now digest.now) }
-    ensures { Put d.old 0 (line_of label.now name.now digest.now) result d.new }
-{
-    let a = put_head(d, label, name);
-    let b = hex_digits::put_hex(d, a, digest);
-    wire::put_fill(d, b, 1, 10)
+// A line of the list: the hash's name, the message's name and the digest.
+#[derive(Drop)]
+struct Line<'n, 'd, N> {
+    hash: &'static str,
+    name: &'n N,
+    digest: &'d [u8],
 }
 
-fn print_line(rt: &impl Print, label: &[u8], name: &[u8], digest: &[u8]) -> io::Result<()>
-    requires { (length label.now ≤ 8) × (length name.now ≤ 8) × (length digest.now ≤ 32) }
-{
-    let mut d = [0u8; 96];
-    let n = put_line(&mut d, label, name, digest);
-    rt.write_all(&d[..n])
+impl<N: fmt::Display> fmt::Display for Line<'_, '_, N> {
+    ghost output = { λ l. option_map (λ name. line_of l.hash.now name l.digest.now) (N.output l.name.now) };
+
+    fn fmt<W: fmt::Write>(&self, f: &mut fmt::Formatter<W>) -> fmt::Result {
+        writeln!(f, "{} {} {}", self.hash, self.name, Hex(self.digest))
+    }
 }
 
-fn print_both(rt: &impl Print, name: &[u8], m: &[u8]) -> io::Result<()>
-    requires { length name.now ≤ 8 }
-{
-    let a = sha1_hash::digest(m);
-    print_line(rt, b"sha1", name, &a)?;
-    let b = sha256::digest(m);
-    print_line(rt, b"sha256", name, &b)
+fn print_both<N: fmt::Display>(rt: &impl Print, name: &N, message: &[u8]) -> io::Result<()> {
+    rt.print(Line {
+        hash: "sha1",
+        name,
+        digest: &sha1_hash::digest(message),
+    })?;
+    rt.print(Line {
+        hash: "sha256",
+        name,
+        digest: &sha256::digest(message),
+    })
 }
 
-fn fill(m: &mut [u8], n: usize)
-    requires { (n ≤ length m.old) × (n ≤ 300) }
-    ensures { m.new ≡ sets m.old 0 (pattern_of n n) }
+// Makes message the patterned one of its length.
+fn fill(message: &mut [u8])
+    requires { length message.old ≤ 300 }
+    ensures { message.new ≡ pattern_of (length message.old) (length message.old) }
 {
-    let mut i: usize = 0;
-    while i < n {
-        m[i] = ((i * 31 + n * 17 + 5) % 256) as u8;
-        i += 1;
+    let n = message.len();
+    for (i, byte) in message.iter_mut().enumerate() {
+        *byte = ((i * 31 + n * 17 + 5) % 256) as u8;
     }
 }
 
 fn print_pattern(rt: &impl Print, n: usize) -> io::Result<()>
     requires { n ≤ 300 }
 {
-    let mut m = [0u8; 300];
-    fill(&mut m, n);
-    let name = [
-        (48 + n / 100 % 10) as u8,
-        (48 + n / 10 % 10) as u8,
-        (48 + n % 10) as u8,
-    ];
-    print_both(rt, &name, &m[..n])
-}
-
-fn print_patterns(rt: &impl Print) -> io::Result<()> {
-    let mut n: usize = 0;
-    while n <= 300 {
-        print_pattern(rt, n)?;
-        n += 1;
-    }
-    Ok(())
+    let mut message = [0u8; 300];
+    fill(&mut message[..n]);
+    print_both(rt, &format_args!("{n:03}"), &message[..n])
 }
 
 fn main(rt: HostRuntime) -> io::Result<()> {
-    let zeros = [0u8; 4];
-    print_both(&rt, b"empty", &zeros[..0])?;
-    print_both(&rt, b"zeros", &zeros)?;
-    print_both(&rt, b"abc", b"abc")?;
-    print_both(
-        &rt,
-        b"fips448",
-        b"abcdbcdecdefdefgefghfghighijhijkijkljklmklmnlmnomnopnopq",
-    )?;
-    print_both(
-        &rt,
-        b"fips896",
-        b"abcdefghbcdefghicdefghijdefghijkefghijklfghijklmghijklmnhijklmnoijklmnopjklmnopqklmnopqrlmnopqrsmnopqrstnopqrstu",
-    )?;
-    print_both(&rt, b"fox", b"The quick brown fox jumps over the lazy dog")?;
-    print_patterns(&rt)
+    for (name, message) in NAMED {
+        print_both(&rt, &name, message)?;
+    }
+    for n in 0..=300 {
+        print_pattern(&rt, n)?;
+    }
+    Ok(())
 }

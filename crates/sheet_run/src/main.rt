@@ -5,12 +5,17 @@
 // line: its name, the status, the used length, the last entry, whether the log is closed, and whether the table is armed.
 #![tactic(auto)]
 
-ghost use Rattle.std.specs.Prelude.{◌≡◌, ◌≤◌, length};
-ghost use Rattle.wire.specs.Bytes.{Put, Room};
-ghost use Rattle.sheet_run.specs.Request.{sizes_of, request_of};
+ghost use Rattle.std.specs.Prelude.{◌≡◌, Some, replicate};
+ghost use Rattle.hex_digits.specs.Hex.{hex_of};
+ghost use Rattle.service.specs.Answer.{outcome_of};
+ghost use Rattle.service.specs.Opening.{opening_of};
+ghost use Rattle.service.specs.Reading.{read_outcome, reading_of};
+ghost use Rattle.request.specs.Request as asked;
+ghost use Rattle.sheet_run.specs.Lines.{answer_text, marks_text, reading_text};
+ghost use Rattle.sheet_run.specs.Request.{request_of};
 
 use service::{Answer, Reading, State};
-use std::io;
+use std::{fmt, io};
 use store::Last;
 
 // The flag of a request that extends and logs nothing.
@@ -21,339 +26,216 @@ const FOX: [u8; 43] = *b"The quick brown fox jumps over the lazy dog";
 
 const EVENT: [u8; 18] = *b"TCG2 Protocol Test";
 
-// A request's flags and the fields of its lent bytes. Its event and its data are lent beside it.
-#[derive(Clone, Copy)]
-struct Asked {
-    flags: u64,
-    size: u64,
-    register: u64,
-    kind: u64,
+// 001's request over fresh buffers: a name, the bitmap and the flags.
+const REQUESTS: [(&str, u32, u64); 6] = [
+    ("fox-1", 1, 0),
+    ("fox-2", 2, 0),
+    ("fox-3", 3, 0),
+    ("extend-1", 1, EXTEND_ONLY),
+    ("extend-2", 2, EXTEND_ONLY),
+    ("extend-3", 3, EXTEND_ONLY),
+];
+
+// The story's requests: every store takes two entries, the third closes the agile log, and the others go on; then an extend-only request answers 11
+// again.
+const STORY: [(&str, u64); 4] = [
+    ("story-fox-1", 0),
+    ("story-fox-2", 0),
+    ("story-fox-3", 0),
+    ("story-extend", EXTEND_ONLY),
+];
+
+// The bytes that 001's request lends: where each field stands is where the one before it ends.
+#[tactic(auto, using(wire::proofs::Laws::length_le))]
+fn request_bytes() -> [u8; 36]
+    ensures { result ≡ request_of 36 16 1 EVENT }
+{
+    let mut bytes = [0u8; 36];
+    let header_size = wire::put_le(&mut bytes, 0, 4, 36);
+    let version = wire::put_le(&mut bytes, header_size, 4, 14);
+    let register = wire::put_le(&mut bytes, version, 2, 1);
+    let kind = wire::put_le(&mut bytes, register, 4, 16);
+    let event = wire::put_le(&mut bytes, kind, 4, 1);
+    wire::put_bytes(&mut bytes, event, &EVENT);
+    bytes
 }
 
-// 001's request with other flags.
-fn as_fox(flags: u64) -> Asked
-    ensures { result ≡ record { flags = flags; size = 36; register = 16; kind = 1 } }
-{
-    Asked {
-        flags: flags,
-        size: 36,
-        register: 16,
-        kind: 1,
+// Bytes that print as their hexadecimal digits.
+#[derive(Drop)]
+struct Hex<'a>(&'a [u8]);
+
+impl fmt::Display for Hex<'_> {
+    ghost output = { λ h. Some (hex_of h.0.now) };
+
+    fn fmt<W: fmt::Write>(&self, f: &mut fmt::Formatter<W>) -> fmt::Result {
+        for &byte in self.0 {
+            write!(f, "{byte:02x}")?;
+        }
+        Ok(())
     }
 }
 
-fn put_sizes(d: &mut [u8], size: u64) -> usize
-    requires { Room d.old 0 (sizes_of size) }
-    ensures { Put d.old 0 (sizes_of size) result d.new }
-{
-    let a = wire::put_le(d, 0, 4, size);
-    let b = wire::put_le(d, a, 4, 14);
-    wire::put_le(d, b, 2, 1)
+// The panel's part as firmware keeps it: what it answered last, with the state in it, and the buffers that it is lent.
+#[derive(Drop)]
+struct Panel<const OLD: usize, const AGILE: usize, const TABLE: usize> {
+    answer: Answer,
+    old_log: [u8; OLD],
+    agile_log: [u8; AGILE],
+    table: [u8; TABLE],
 }
 
-// Writes the bytes that a request lends, and says their number.
-fn put_request(d: &mut [u8], a: Asked, event: &[u8]) -> usize
-    requires { Room d.old 0 (request_of a.size a.register a.kind event.now) }
-    ensures { Put d.old 0 (request_of a.size a.register a.kind event.now) result d.new }
-{
-    let b = put_sizes(d, a.size);
-    let c = wire::put_le(d, b, 4, a.register);
-    let e = wire::put_le(d, c, 4, a.kind);
-    wire::put_bytes(d, e, event)
-}
+impl<const OLD: usize, const AGILE: usize, const TABLE: usize> Panel<OLD, AGILE, TABLE> {
+    // Opens over buffers whose bytes are all 165.
+    fn open(bitmap: u32) -> Self
+        ensures { outcome_of result.answer result.old_log result.agile_log result.table
+            ≡ opening_of bitmap (replicate OLD 165) (replicate AGILE 165) (replicate TABLE 165) }
+    {
+        let mut old_log = [165u8; OLD];
+        let mut agile_log = [165u8; AGILE];
+        let mut table = [165u8; TABLE];
+        let answer = service::open(bitmap, &mut old_log, &mut agile_log, &mut table);
+        Panel {
+            answer,
+            old_log,
+            agile_log,
+            table,
+        }
+    }
 
-fn print_text(rt: &impl Print, text: &[u8]) -> io::Result<()> {
-    rt.write_all(text)
-}
+    // Asks 001's request.
+    fn ask(&mut self, flags: u64)
+        ensures { outcome_of self.new.answer self.new.old_log self.new.agile_log self.new.table
+            ≡ asked.request_of self.old.answer.state flags FOX (request_of 36 16 1 EVENT)
+            self.old.old_log self.old.agile_log self.old.table }
+    {
+        self.answer = request::request(
+            self.answer.state,
+            flags,
+            &FOX,
+            &request_bytes(),
+            &mut self.old_log,
+            &mut self.agile_log,
+            &mut self.table,
+        );
+    }
 
-fn print_number(rt: &impl Print, n: u64) -> io::Result<()> {
-    print!(rt; " {n}")
-}
-
-// A space, and the digits of some bytes: no buffer here is longer than 300.
-fn print_hex(rt: &impl Print, bytes: &[u8]) -> io::Result<()>
-    requires { length bytes.now ≤ 300 }
-{
-    print_text(rt, b" ")?;
-    let mut d = [0u8; 600];
-    let n = hex_digits::put_hex(&mut d, 0, bytes);
-    print_text(rt, &d[..n])
-}
-
-fn print_last(rt: &impl Print, last: Last) -> io::Result<()> {
-    match last {
-        Last::Missing => print_text(rt, b" none"),
-        Last::At(p) => print_number(rt, p as u64),
+    // Reads a log.
+    fn read(&mut self, format: u32) -> Told
+        ensures told { read_outcome result.0 ≡ reading_of self.old.answer.state format OLD AGILE TABLE }
+        ensures kept { self.new ≡ record self.old { answer = record self.old.answer { state = result.0.state } } }
+    {
+        let reading = service::read_log(
+            self.answer.state,
+            format,
+            &self.old_log,
+            &self.agile_log,
+            &self.table,
+        );
+        self.answer.state = reading.state;
+        Told(reading)
     }
 }
 
-// The used lengths, whether the logs are closed, and the two flags of the state.
-fn print_marks(rt: &impl Print, s: State) -> io::Result<()> {
-    let old = s.old;
-    let agile = s.agile;
-    let table = s.table;
-    print_number(rt, old.used as u64)?;
-    print_number(rt, agile.used as u64)?;
-    print_number(rt, table.used as u64)?;
-    print_number(rt, old.closed as u64)?;
-    print_number(rt, agile.closed as u64)?;
-    print_number(rt, s.armed as u64)?;
-    print_number(rt, s.full as u64)
+// What an answer says of the stores.
+#[derive(Drop)]
+struct Marks<'a>(&'a Answer);
+
+impl fmt::Display for Marks<'_> {
+    ghost output = { λ m. Some (marks_text m.0.now) };
+
+    fn fmt<W: fmt::Write>(&self, f: &mut fmt::Formatter<W>) -> fmt::Result {
+        let State {
+            old,
+            agile,
+            table,
+            armed,
+            full,
+            ..
+        } = self.0.state;
+        write!(
+            f,
+            "{} {} {} {} {} {} {} {}",
+            service::number_of(self.0.status),
+            old.used,
+            agile.used,
+            table.used,
+            u8::from(old.closed),
+            u8::from(agile.closed),
+            u8::from(armed),
+            u8::from(full)
+        )
+    }
 }
 
-// The digest of the registers of every bank.
-fn print_registers(rt: &impl Print, s: State) -> io::Result<()> {
-    let g = s.registers;
-    let b = g.bytes;
-    let h = sha256::digest(&b);
-    print_hex(rt, &h)
+impl<const OLD: usize, const AGILE: usize, const TABLE: usize> fmt::Display
+    for Panel<OLD, AGILE, TABLE> {
+    ghost output = { λ p. Some (answer_text p.answer p.old_log p.agile_log p.table) };
+
+    fn fmt<W: fmt::Write>(&self, f: &mut fmt::Formatter<W>) -> fmt::Result {
+        write!(
+            f,
+            "{} {} {} {} {}",
+            Marks(&self.answer),
+            Hex(&self.old_log),
+            Hex(&self.agile_log),
+            Hex(&self.table),
+            Hex(&sha256::digest(&self.answer.state.registers.bytes))
+        )
+    }
 }
 
-// The rest of a line behind its name: the status, and all that an opening or a request leaves.
-fn print_answer(
-    rt: &impl Print,
-    a: Answer,
-    old: &[u8],
-    agile: &[u8],
-    table: &[u8],
-) -> io::Result<()>
-    requires { (length old.now ≤ 300) × (length agile.now ≤ 300) × (length table.now ≤ 300) }
-{
-    let status = a.status;
-    let s = a.state;
-    print_number(rt, service::number_of(status))?;
-    print_marks(rt, s)?;
-    print_hex(rt, old)?;
-    print_hex(rt, agile)?;
-    print_hex(rt, table)?;
-    print_registers(rt, s)?;
-    print_text(rt, b"\n")
+// What a reading told.
+#[derive(Drop)]
+struct Told(Reading);
+
+impl fmt::Display for Told {
+    ghost output = { λ t. Some (reading_text t.0) };
+
+    fn fmt<W: fmt::Write>(&self, f: &mut fmt::Formatter<W>) -> fmt::Result {
+        let Reading {
+            status,
+            state,
+            length,
+            last,
+            closed,
+        } = self.0;
+        write!(f, "{} {length}", service::number_of(status))?;
+        match last {
+            Last::Missing => write!(f, " none")?,
+            Last::At(place) => write!(f, " {place}")?,
+        }
+        write!(f, " {} {}", u8::from(closed), u8::from(state.armed))
+    }
 }
 
-// The rest of a reading's line.
-fn print_reading(rt: &impl Print, r: Reading) -> io::Result<()> {
-    let status = r.status;
-    let last = r.last;
-    let s = r.state;
-    print_number(rt, service::number_of(status))?;
-    print_number(rt, r.length as u64)?;
-    print_last(rt, last)?;
-    print_number(rt, r.closed as u64)?;
-    print_number(rt, s.armed as u64)?;
-    print_text(rt, b"\n")
-}
-
-// Asks, and prints the rest of the line.
-fn ask(
-    rt: &impl Print,
-    s: State,
-    a: Asked,
-    message: &[u8],
-    event: &[u8],
-    old: &mut [u8],
-    agile: &mut [u8],
-    table: &mut [u8],
-) -> io::Result<State>
-    requires { (length event.now ≤ 18) × (length old.old ≤ 300) × (length agile.old ≤ 300) × (length table.old ≤ 300) }
-{
-    let mut d = [0u8; 36];
-    let n = put_request(&mut d, a, event);
-    let r = request::request(s, a.flags, message, &d[..n], old, agile, table);
-    print_answer(rt, r, old, agile, table)?;
-    let t = r.state;
-    Ok(t)
-}
-
-// Reads a log, and prints the rest of the line.
-fn read(
-    rt: &impl Print,
-    s: State,
-    format: u32,
-    old: &[u8],
-    agile: &[u8],
-    table: &[u8],
-) -> io::Result<State> {
-    let r = service::read_log(s, format, old, agile, table);
-    print_reading(rt, r)?;
-    let t = r.state;
-    Ok(t)
-}
-
-// A line for the request, and one for a reading of the agile log behind it, which shows the last entry.
-fn ask_and_read(
-    rt: &impl Print,
-    name: &[u8],
-    bitmap: u32,
-    a: Asked,
-    message: &[u8],
-    event: &[u8],
-    old: &mut [u8],
-    agile: &mut [u8],
-    table: &mut [u8],
-) -> io::Result<()>
-    requires { (length event.now ≤ 18) × (length old.old ≤ 300) × (length agile.old ≤ 300) × (length table.old ≤ 300) }
-{
-    let o = service::open(bitmap, old, agile, table);
-    let s = o.state;
-    print_text(rt, name)?;
-    let t = ask(rt, s, a, message, event, old, agile, table)?;
-    print_text(rt, name)?;
-    print_text(rt, b"-log")?;
-    read(rt, t, 2, old, agile, table)?;
+// For each request a line, and one for a reading of the agile log behind it, which shows the last entry.
+fn print_requests(rt: &impl Print) -> io::Result<()> {
+    for (name, bitmap, flags) in REQUESTS {
+        let mut panel = Panel::<300, 300, 300>::open(bitmap);
+        panel.ask(flags);
+        println!(rt; "{name} {panel}")?;
+        let told = panel.read(2);
+        println!(rt; "{name}-log {told}")?;
+    }
     Ok(())
 }
 
-// 001's request, with buffers of 300 bytes.
-fn fox_row(rt: &impl Print, name: &[u8], bitmap: u32, flags: u64) -> io::Result<()> {
-    let mut old = [165u8; 300];
-    let mut agile = [165u8; 300];
-    let mut table = [165u8; 300];
-    ask_and_read(
-        rt,
-        name,
-        bitmap,
-        as_fox(flags),
-        &FOX,
-        &EVENT,
-        &mut old,
-        &mut agile,
-        &mut table,
-    )
-}
-
-fn print_fox(rt: &impl Print) -> io::Result<()> {
-    fox_row(rt, b"fox-1", 1, 0)?;
-    fox_row(rt, b"fox-2", 2, 0)?;
-    fox_row(rt, b"fox-3", 3, 0)?;
-    fox_row(rt, b"extend-1", 1, EXTEND_ONLY)?;
-    fox_row(rt, b"extend-2", 2, EXTEND_ONLY)?;
-    fox_row(rt, b"extend-3", 3, EXTEND_ONLY)
-}
-
-fn ask_fox(
-    rt: &impl Print,
-    name: &[u8],
-    s: State,
-    flags: u64,
-    old: &mut [u8],
-    agile: &mut [u8],
-    table: &mut [u8],
-) -> io::Result<State>
-    requires { (length old.old ≤ 300) × (length agile.old ≤ 300) × (length table.old ≤ 300) }
-{
-    print_text(rt, name)?;
-    ask(rt, s, as_fox(flags), &FOX, &EVENT, old, agile, table)
-}
-
-// Every store takes two entries.
-fn fill(
-    rt: &impl Print,
-    s: State,
-    old: &mut [u8],
-    agile: &mut [u8],
-    table: &mut [u8],
-) -> io::Result<State>
-    requires { (length old.old ≤ 300) × (length agile.old ≤ 300) × (length table.old ≤ 300) }
-{
-    let a = ask_fox(rt, b"story-fox-1", s, 0, old, agile, table)?;
-    ask_fox(rt, b"story-fox-2", a, 0, old, agile, table)
-}
-
-// The third entry closes the agile log, and the others go on; then an extend-only request answers 11 again.
-fn overfill(
-    rt: &impl Print,
-    s: State,
-    old: &mut [u8],
-    agile: &mut [u8],
-    table: &mut [u8],
-) -> io::Result<State>
-    requires { (length old.old ≤ 300) × (length agile.old ≤ 300) × (length table.old ≤ 300) }
-{
-    let a = ask_fox(rt, b"story-fox-3", s, 0, old, agile, table)?;
-    ask_fox(rt, b"story-extend", a, EXTEND_ONLY, old, agile, table)
-}
-
-fn read_both(rt: &impl Print, s: State, old: &[u8], agile: &[u8], table: &[u8]) -> io::Result<()> {
-    print_text(rt, b"story-end-1")?;
-    let a = read(rt, s, 1, old, agile, table)?;
-    print_text(rt, b"story-end-2")?;
-    read(rt, a, 2, old, agile, table)?;
-    Ok(())
-}
-
-// Opens, and arms the table by a reading.
-fn open_armed(
-    rt: &impl Print,
-    old: &mut [u8],
-    agile: &mut [u8],
-    table: &mut [u8],
-) -> io::Result<State> {
-    let o = service::open(3, old, agile, table);
-    let s = o.state;
-    print_text(rt, b"story-read-2")?;
-    read(rt, s, 2, old, agile, table)
-}
-
-fn tell_story(rt: &impl Print, old: &mut [u8], agile: &mut [u8], table: &mut [u8]) -> io::Result<()>
-    requires { (length old.old ≤ 300) × (length agile.old ≤ 300) × (length table.old ≤ 300) }
-{
-    let s = open_armed(rt, old, agile, table)?;
-    let a = fill(rt, s, old, agile, table)?;
-    let b = overfill(rt, a, old, agile, table)?;
-    read_both(rt, b, old, agile, table)
-}
-
+// A reading arms the table, requests follow, and both logs are read at the end.
 fn print_story(rt: &impl Print) -> io::Result<()> {
-    let mut old = [165u8; 300];
-    let mut agile = [165u8; 300];
-    let mut table = [165u8; 300];
-    tell_story(rt, &mut old, &mut agile, &mut table)
-}
-
-fn open_and_print(
-    rt: &impl Print,
-    name: &[u8],
-    bitmap: u32,
-    old: &mut [u8],
-    agile: &mut [u8],
-    table: &mut [u8],
-) -> io::Result<()>
-    requires { (length old.old ≤ 300) × (length agile.old ≤ 300) × (length table.old ≤ 300) }
-{
-    let a = service::open(bitmap, old, agile, table);
-    print_text(rt, name)?;
-    print_answer(rt, a, old, agile, table)
-}
-
-// The agile buffer is the first n bytes, the table's the first k.
-fn open_in(
-    rt: &impl Print,
-    name: &[u8],
-    bitmap: u32,
-    n: usize,
-    k: usize,
-    old: &mut [u8],
-    agile: &mut [u8],
-    table: &mut [u8],
-) -> io::Result<()>
-    requires { (n ≤ length agile.old) × (k ≤ length table.old) × (length old.old ≤ 300) × (length agile.old ≤ 300) × (length table.old ≤ 300) }
-{
-    open_and_print(rt, name, bitmap, old, &mut agile[..n], &mut table[..k])
-}
-
-fn open_row(rt: &impl Print, name: &[u8], bitmap: u32, n: usize, k: usize) -> io::Result<()>
-    requires { (n ≤ 200) × (k ≤ 100) }
-{
-    let mut old = [165u8; 100];
-    let mut agile = [165u8; 200];
-    let mut table = [165u8; 100];
-    open_in(rt, name, bitmap, n, k, &mut old, &mut agile, &mut table)
+    let mut panel = Panel::<300, 300, 300>::open(3);
+    println!(rt; "story-read-2 {}", panel.read(2))?;
+    for (name, flags) in STORY {
+        panel.ask(flags);
+        println!(rt; "{name} {panel}")?;
+    }
+    println!(rt; "story-end-1 {}", panel.read(1))?;
+    println!(rt; "story-end-2 {}", panel.read(2))
 }
 
 fn main(rt: HostRuntime) -> io::Result<()> {
-    print_fox(&rt)?;
+    print_requests(&rt)?;
     print_story(&rt)?;
-    open_row(&rt, b"open-bitmap-0", 0, 200, 100)?;
-    open_row(&rt, b"open-table-15", 3, 200, 15)?;
-    open_row(&rt, b"open-agile-68", 3, 68, 100)
+    println!(rt; "open-bitmap-0 {}", Panel::<100, 200, 100>::open(0))?;
+    println!(rt; "open-table-15 {}", Panel::<100, 200, 15>::open(3))?;
+    println!(rt; "open-agile-68 {}", Panel::<100, 68, 100>::open(3))
 }

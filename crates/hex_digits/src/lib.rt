@@ -1,9 +1,11 @@
 // Bytes as lower-case hexadecimal digits.
 #![tactic(auto)]
 
-ghost use Rattle.std.specs.Prelude.{◌≡◌, ◌<◌};
+ghost use Rattle.std.specs.Prelude.{◌≡◌, ◌<◌, Some};
 ghost use Rattle.wire.specs.Bytes.{Put, Room};
 ghost use Rattle.hex_digits.specs.Hex.{digit_of, hex_of};
+
+use std::fmt;
 
 // The character of a digit.
 fn digit(n: u8) -> u8
@@ -24,4 +26,19 @@ pub fn put_hex(d: &mut [u8], at: usize, s: &[u8]) -> usize
         d[at + i * 2 + 1] = digit(byte % 16);
     }
     at + s.len() * 2
+}
+
+// Bytes that print as their digits.
+#[derive(Drop)]
+pub struct Hex<'a>(pub &'a [u8]);
+
+impl fmt::Display for Hex<'_> {
+    ghost output = { λ h. Some (hex_of h.0.now) };
+
+    fn fmt<W: fmt::Write>(&self, f: &mut fmt::Formatter<W>) -> fmt::Result {
+        for &byte in self.0 {
+            write!(f, "{byte:02x}")?;
+        }
+        Ok(())
+    }
 }

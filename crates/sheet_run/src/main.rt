@@ -6,7 +6,6 @@
 #![tactic(auto)]
 
 ghost use Rattle.std.specs.Prelude.{◌≡◌, Some, replicate};
-ghost use Rattle.hex_digits.specs.Hex.{hex_of};
 ghost use Rattle.service.specs.Answer.{outcome_of};
 ghost use Rattle.service.specs.Opening.{opening_of};
 ghost use Rattle.service.specs.Reading.{read_outcome, reading_of};
@@ -14,6 +13,7 @@ ghost use Rattle.request.specs.Request as asked;
 ghost use Rattle.sheet_run.specs.Lines.{answer_text, marks_text, reading_text};
 ghost use Rattle.sheet_run.specs.Request.{request_of};
 
+use hex_digits::Hex;
 use service::{Answer, Reading, State};
 use std::{fmt, io};
 use store::Last;
@@ -58,21 +58,6 @@ fn request_bytes() -> [u8; 36]
     let event = wire::put_le(&mut bytes, kind, 4, 1);
     wire::put_bytes(&mut bytes, event, &EVENT);
     bytes
-}
-
-// Bytes that print as their hexadecimal digits.
-#[derive(Drop)]
-struct Hex<'a>(&'a [u8]);
-
-impl fmt::Display for Hex<'_> {
-    ghost output = { λ h. Some (hex_of h.0.now) };
-
-    fn fmt<W: fmt::Write>(&self, f: &mut fmt::Formatter<W>) -> fmt::Result {
-        for &byte in self.0 {
-            write!(f, "{byte:02x}")?;
-        }
-        Ok(())
-    }
 }
 
 // The panel's part as firmware keeps it: what it answered last, with the state in it, and the buffers that it is lent.

@@ -4,9 +4,9 @@
 
 ghost use Rattle.std.specs.Prelude.{◌≡◌, ◌≤◌, length, Some};
 ghost use Rattle.std.specs.Option.{option_map};
-ghost use Rattle.hex_digits.specs.Hex.{hex_of};
 ghost use Rattle.vectors.specs.Line.{line_of, pattern_of};
 
+use hex_digits::Hex;
 use std::{fmt, io};
 
 // The messages that have a name.
@@ -24,21 +24,6 @@ const NAMED: [(&str, &[u8]); 6] = [
     ),
     ("fox", b"The quick brown fox jumps over the lazy dog"),
 ];
-
-// Bytes that print as their hexadecimal digits.
-#[derive(Drop)]
-struct Hex<'a>(&'a [u8]);
-
-impl fmt::Display for Hex<'_> {
-    ghost output = { λ h. Some (hex_of h.0.now) };
-
-    fn fmt<W: fmt::Write>(&self, f: &mut fmt::Formatter<W>) -> fmt::Result {
-        for &byte in self.0 {
-            write!(f, "{byte:02x}")?;
-        }
-        Ok(())
-    }
-}
 
 // A line of the list: the hash's name, the message's name and the digest.
 #[derive(Drop)]

@@ -4,7 +4,7 @@ use Rattle.std.proofs.lemmas.Fmt.{hex_byte}
 use Rattle.std.proofs.Output.{has_written_append, has_written_of_eq}
 use Rattle.std.specs.Fmt.{digits, format_spec, padded_integral}
 use Rattle.hex_digits.specs.Hex.{hex_of}
-use Rattle.vectors.proofs.HexDisplay.fmt.Goals as goal
+use Rattle.hex_digits.proofs.HexDisplay.fmt.Goals as goal
 
 -- the digits of bytes joined
 hex_append : (a b : List ℕ) → hex_of (a ++ b) ≡ hex_of a ++ hex_of b

@@ -1,8 +1,0 @@
--- `sheet_run::HexDisplay::fmt` meets its contract. The invariant: the digits of the bytes so far are written. Assumes nothing.
-use Rattle.std.proofs.Common.{take}
-use Rattle.std.specs.Fmt.{HasWritten, IsPlainFormatter}
-use Rattle.hex_digits.specs.Hex.{hex_of}
-use Rattle.sheet_run.proofs.HexDisplay.fmt.Given as goal
-
-abbrev pub invariant-loop-byte : goal.invariant-loop-byte
-invariant-loop-byte g l = IsPlainFormatter l.initial.f → HasWritten g.W.Write.write_str_gives l.initial.f (hex_of (take l.byte-index l.byte-items)) l.f

@@ -8,9 +8,8 @@ use native.Mathlib.Omega.{arith}
 use borrow.Author.Tests.{eqb-true, eqb-false}
 use lib.Dec.{eqb}
 use lib.ListN.{length}
-use Rattle.bank.specs.Bank.{Bank, valid, banks, table, active, sha1_bank, sha256_bank}
+use Rattle.bank.specs.Bank.{Bank, valid, banks, table, active, active_of, sha1_bank, sha256_bank}
 use Rattle.bank.specs.Registers.{digests_length, registers_length, value, extend, extend_all, hashes, reset_all}
-use Rattle.bank.proofs.Turns.{rest}
 use Rattle.bank.proofs.Laws.{All as AllBanks, Lawful, Every, every_banks, Laid, laid_after, laid_banks, banks_1, banks_2, valid_cases, length_extend, length_extend_all, length_reset_all, value_extend_same, value_extend_other, value_extend_apart}
 use Rattle.history.specs.History.{Measure, extend_by, made}
 use Rattle.history.proofs.Good.{GoodMeasure, All}
@@ -61,14 +60,18 @@ behind : (b : Bank) (os : List Bank) → AllBanks (λ a. b.from + b.size ≤ a.f
 behind b [] h = tt
 behind b (a ∷ os) h = (inl h.0, behind b os h.1)
 
+-- the active banks behind SHA-1
+abbrev others : ℕ → List Bank
+others bitmap = active_of bitmap (sha256_bank ∷ [])
+
 -- SHA-1 stands first in the table: what measurements make of its registers, alone and with the other active banks
 pub agree_sha1 : (bitmap : ℕ) (ms : List Measure) → active bitmap sha1_bank ≡ true → All GoodMeasure ms → Agree sha1_bank (made (sha1_bank ∷ []) ms) (made (banks bitmap) ms)
 unfolding made
 agree_sha1 bitmap ms a g =
-    let e : banks bitmap ≡ sha1_bank ∷ rest bitmap 1 = unfold banks table in (rw a) in
-    let laid : Laid 0 (sha1_bank ∷ rest bitmap 1) = rw e at (laid_banks bitmap) in
-    let every : Every (sha1_bank ∷ rest bitmap 1) = rw e at (every_banks bitmap) in
-    rw e (agree_made sha1_bank every.0 (omega arith) (rest bitmap 1) (behind sha1_bank (rest bitmap 1) (laid_after 20 (rest bitmap 1) laid.1)) every.1 ms reset_all reset_all g length_reset_all length_reset_all (λ r h. refl))
+    let e : banks bitmap ≡ sha1_bank ∷ others bitmap = unfold banks table in (rw a) in
+    let laid : Laid 0 (sha1_bank ∷ others bitmap) = rw e at (laid_banks bitmap) in
+    let every : Every (sha1_bank ∷ others bitmap) = rw e at (every_banks bitmap) in
+    rw e (agree_made sha1_bank every.0 (omega arith) (others bitmap) (behind sha1_bank (others bitmap) (laid_after 20 (others bitmap) laid.1)) every.1 ms reset_all reset_all g length_reset_all length_reset_all (λ r h. refl))
 
 -- ---- a bank that isn't active stays reset
 

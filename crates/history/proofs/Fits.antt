@@ -15,9 +15,8 @@ use Rattle.bank.proofs.Laws.{Every, every_banks, banks_1}
 use Rattle.entry.specs.Entry.{log_limit, old_bytes, agile_bytes, old_length, agile_length}
 use Rattle.entry.specs.Header.{header_length}
 use Rattle.entry.proofs.Laws.{length_old, length_agile, fits_hashes, digests_least}
-use Rattle.store.specs.Store.{count_limit, Offered, offered, TableOffered, table_offered}
+use Rattle.store.specs.Store.{count_limit, Offered, offered, TableOffered, table_offered, offer_if, offer_table_if}
 use Rattle.service.specs.State.{belongs, last_fits}
-use Rattle.request_log.specs.Log.{offer_if, offer_table_if}
 use Rattle.request.specs.Request.{extend_only}
 use Rattle.request.specs.Request as spec
 use Rattle.history.specs.History.{Call, ask, reading, Panel, step, run, Measure, measure_of, entry_of, is_good, arms}

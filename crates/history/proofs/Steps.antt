@@ -9,12 +9,11 @@ use lib.ListN.{length}
 use Rattle.bank.specs.Bank.{banks, active, sha1_bank}
 use Rattle.bank.specs.Registers.{extend_all, hashes}
 use Rattle.entry.specs.Entry.{old_bytes, agile_bytes}
-use Rattle.store.specs.Store.{Offered, offered_of, offered, TableOffered, table_of}
+use Rattle.store.specs.Store.{Offered, offered_of, offered, TableOffered, table_of, offer_if, offer_table_if}
 use Rattle.service.specs.State.{belongs}
 use Rattle.service.specs.Answer.{untouched}
 use Rattle.service.specs.Reading.{armed, told, refused, reading_of}
 use Rattle.request_checks.specs.Checks.{well_formed}
-use Rattle.request_log.specs.Log.{offer_if, offer_table_if}
 use Rattle.request.specs.Request.{pe_coff, extend_only, request_of}
 use Rattle.request.specs.Request as spec
 use Rattle.history.specs.History.{ask, reading, Panel, panel_of, step, Measure, measure_of, entry_of, is_good, arms}

@@ -13,8 +13,7 @@ use Rattle.wire.specs.Bytes.{le}
 use Rattle.wire.proofs.Laws.{length_le}
 use Rattle.bank.specs.Bank.{banks}
 use Rattle.entry.specs.Entry.{agile_bytes}
-use Rattle.store.specs.Store.{TableOffered, table_taken, table_shut, table_offered}
-use Rattle.request_log.specs.Log.{offer_table_if}
+use Rattle.store.specs.Store.{TableOffered, table_taken, table_shut, table_offered, offer_table_if}
 use Rattle.request.specs.Request.{extend_only}
 use Rattle.request.specs.Request as spec
 use Rattle.history.specs.History.{Call, ask, reading, Panel, step, run, Measure, measure_of, entry_of, is_good, arms, keep_if, tabled, fitting, cut_off, all_bytes}

@@ -1,10 +1,8 @@
 -- Document 01, Sheet for the test bench: the rows marked P, each with what is looked at and what must be seen.
-use Rattle.std.specs.Prelude.{Bool, true, false, cond, ◌&&◌, List, [], ◌∷◌, ◌++◌, ◌≡◌, ℕ, eqb, length, replicate}
+use Rattle.std.specs.Prelude.{Bool, true, false, cond, ◌&&◌, List, [], ◌∷◌, ◌++◌, ◌≡◌, Option, Some, None, ℕ, eqb, length, replicate}
 use Rattle.wire.specs.Bytes.{part}
 use Rattle.bank.specs.Bank.{sha1_bank, sha256_bank}
 use Rattle.bank.specs.Registers.{value}
-use Rattle.store.specs.declared.Last.{Last}
-use Rattle.store.specs.declared.Last.TheVariants.{Missing, At}
 use Rattle.service.specs.Reading.{reading_of}
 use Rattle.history.specs.History.{Call, ask, reading, Panel, status_of, step, opening}
 
@@ -33,9 +31,9 @@ unfoldable pub status : Call → Panel → List ℕ
 status c p = status_of c p ∷ []
 
 -- a last entry: 0 where there is none, else 1 and its offset
-abbrev pub last_seen : Last → List ℕ
-last_seen Missing = 0 ∷ []
-last_seen (At p) = 1 ∷ p ∷ []
+abbrev pub last_seen : Option ℕ → List ℕ
+last_seen None = 0 ∷ []
+last_seen (Some p) = 1 ∷ p ∷ []
 
 abbrev pub flag : Bool → ℕ
 flag b = cond b 1 0

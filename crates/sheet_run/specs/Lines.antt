@@ -1,10 +1,8 @@
 -- What stands in a line behind its name: numbers, and bytes as their digits, with a space between each and the next.
-use Rattle.std.specs.Prelude.{List, ◌++◌, ℕ, Bool, codes, decimal}
+use Rattle.std.specs.Prelude.{List, ◌++◌, ℕ, Bool, Option, Some, None, codes, decimal}
 use Rattle.std.specs.Int.{from_bool}
 use Rattle.hex_digits.specs.Hex.{hex_of}
 use Rattle.sha256.specs.Sha256.{sha256}
-use Rattle.store.specs.declared.Last.{Last}
-use Rattle.store.specs.declared.Last.TheVariants.{Missing, At}
 use Rattle.service.specs.declared.Answer.{Answer}
 use Rattle.service.specs.declared.Reading.{Reading}
 use Rattle.service.specs.Status.{number}
@@ -21,9 +19,9 @@ abbrev pub then_bytes : List ℕ → List ℕ
 then_bytes bs = codes " " ++ hex_of bs
 
 -- where a last entry starts, or that there is none
-abbrev pub then_last : Last → List ℕ
-then_last Missing = codes " none"
-then_last (At place) = then_number place
+abbrev pub then_last : Option ℕ → List ℕ
+then_last None = codes " none"
+then_last (Some place) = then_number place
 
 -- the status, the used lengths, whether the logs are closed, whether the table is armed and an 11 was given
 abbrev pub marks_text : Answer → List ℕ

@@ -16,7 +16,6 @@ ghost use Rattle.sheet_run.specs.Request.{request_of};
 use hex_digits::Hex;
 use service::{Answer, Reading, State};
 use std::{fmt, io};
-use store::Last;
 
 // The flag of a request that extends and logs nothing.
 const EXTEND_ONLY: u64 = 1;
@@ -140,7 +139,7 @@ impl fmt::Display for Marks<'_> {
         write!(
             f,
             "{} {} {} {} {} {} {} {}",
-            service::number_of(self.0.status),
+            u64::from(self.0.status),
             old.used,
             agile.used,
             table.used,
@@ -184,10 +183,10 @@ impl fmt::Display for Told {
             last,
             closed,
         } = self.0;
-        write!(f, "{} {length}", service::number_of(status))?;
+        write!(f, "{} {length}", u64::from(status))?;
         match last {
-            Last::Missing => write!(f, " none")?,
-            Last::At(place) => write!(f, " {place}")?,
+            None => write!(f, " none")?,
+            Some(place) => write!(f, " {place}")?,
         }
         write!(f, " {} {}", u8::from(closed), u8::from(state.armed))
     }

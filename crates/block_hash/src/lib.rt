@@ -2,7 +2,7 @@
 // for all.
 #![tactic(auto)]
 
-ghost use Rattle.std.specs.Prelude.{◌≡◌, ◌+◌, ◌*◌, ◌%◌, ◌^◌, ◌<◌, ◌≤◌, ℕ, List, length};
+ghost use Rattle.std.specs.Prelude.{◌≡◌, ◌*◌, ◌%◌, ◌^◌, ◌<◌, ◌≤◌, ℕ, List, length};
 ghost use Rattle.padding.specs.Padding.{absorbed, finished, hash};
 
 // A hash value, which takes in a message block by block.
@@ -37,6 +37,7 @@ pub trait BlockHash: Copy {
 
     const DIGEST_SIZE: usize;
 
+    // A schedule to lend.
     fn schedule() -> Self::Schedule;
 
     fn start() -> Self
@@ -55,6 +56,7 @@ pub trait BlockHash: Copy {
     ghost field_fits: { (0 < FIELD_SIZE) × (FIELD_SIZE < BLOCK_SIZE) };
 }
 
+// The hash value after the whole blocks of m, over a schedule that is lent.
 fn absorb_with<H: BlockHash>(w: &mut H::Schedule, s: H, m: &[u8]) -> H
     ensures { H.value result ≡ absorbed H.compress H.BLOCK_SIZE m.now (H.value s) }
 {
@@ -82,17 +84,16 @@ pub fn finish<H: BlockHash, const LAST: usize, const N: usize>(s: H, rest: &[u8]
 {
     let block = H::BLOCK_SIZE;
     let field = H::FIELD_SIZE;
-    let l = rest.len();
-    let end = (l + field) / block * block + block;
-    let mut t = [0u8; LAST];
-    padding::pad(&mut t, rest, end - (field + 1) - l, field, n);
-    let v = absorb(s, &t[..end]);
-    let mut r = [0u8; N];
-    v.store(&mut r);
-    r
+    let end = (rest.len() + field) / block * block + block;
+    let mut last = [0u8; LAST];
+    padding::pad(&mut last, rest, end - (field + 1) - rest.len(), field, n);
+    let v = absorb(s, &last[..end]);
+    let mut digest = [0u8; N];
+    v.store(&mut digest);
+    digest
 }
 
-// The digest of a message.
+// The digest of a message. LAST bytes have room for two blocks.
 pub fn digest<H: BlockHash, const LAST: usize, const N: usize>(m: &[u8]) -> [u8; N]
     requires last { (2 * H.BLOCK_SIZE ≤ LAST) × (LAST < 2 ^ 63) }
     requires digest { N ≡ H.DIGEST_SIZE }

@@ -1,7 +1,7 @@
 // Digests and extended registers in lent slices, each with a status on the wire.
 #![tactic(auto)]
 
-ghost use Rattle.std.specs.Prelude.{◌≡◌};
+ghost use Rattle.std.specs.Prelude.{◌≡◌, ◌++◌, ℕ, List, length};
 ghost use Rattle.sha1_hash.specs.Sha1.{sha1};
 ghost use Rattle.sha256.specs.Sha256.{sha256};
 ghost use Rattle.digests.specs.Digests.{outcome, digested, extended};
@@ -9,48 +9,82 @@ ghost use Rattle.digests.specs.Digests.{outcome, digested, extended};
 // 01, When the panel answers no: invalid parameter, on the wire.
 pub const INVALID: u64 = 0x8000_0000_0000_0002;
 
-// Fills digest, which must be 20 bytes, with the SHA-1 digest of message.
-pub fn sha1(message: &[u8], digest: &mut [u8]) -> u64
-    ensures { outcome result digest.new ≡ digested sha1 20 message.now digest.old }
-{
-    if digest.len() == 20 {
-        let h = sha1_hash::digest(message);
-        wire::put_bytes(digest, 0, &h);
-        return 0;
-    }
-    INVALID
+// A bank's hash: its digests, and what a register becomes that is extended.
+pub trait BankHash {
+    ghost hash: { List ℕ → List ℕ };
+
+    ghost SIZE: { ℕ };
+
+    // The bytes of a digest.
+    const SIZE: usize;
+
+    fn digest(message: &[u8], digest: &mut [u8])
+        requires { length digest.old ≡ SIZE }
+        ensures { digest.new ≡ hash message.now };
+
+    fn extend(register: &mut [u8], digest: &[u8])
+        requires { (length register.old ≡ SIZE) × (length digest.now ≡ SIZE) }
+        ensures { register.new ≡ hash (register.old ++ digest.now) };
 }
 
-// Fills digest, which must be 32 bytes, with the SHA-256 digest of message.
-pub fn sha256(message: &[u8], digest: &mut [u8]) -> u64
-    ensures { outcome result digest.new ≡ digested sha256 32 message.now digest.old }
-{
-    if digest.len() == 32 {
-        let h = sha256::digest(message);
-        wire::put_bytes(digest, 0, &h);
-        return 0;
-    }
-    INVALID
-}
+pub struct Sha1;
 
-// Extends register with digest, both 20 bytes, in the SHA-1 bank.
-pub fn sha1_extend(register: &mut [u8], digest: &[u8]) -> u64
-    ensures { outcome result register.new ≡ extended sha1 20 register.old digest.now }
-{
-    if (register.len() == 20) & (digest.len() == 20) {
+impl BankHash for Sha1 {
+    ghost hash = { sha1 };
+
+    ghost SIZE = { 20 };
+
+    const SIZE: usize = 20;
+
+    fn digest(message: &[u8], digest: &mut [u8]) {
+        digest.copy_from_slice(&sha1_hash::digest(message));
+    }
+
+    fn extend(register: &mut [u8], digest: &[u8]) {
         sha1_hash::extend(register, digest);
-        return 0;
     }
-    INVALID
 }
 
-// Extends register with digest, both 32 bytes, in the SHA-256 bank.
-pub fn sha256_extend(register: &mut [u8], digest: &[u8]) -> u64
-    ensures { outcome result register.new ≡ extended sha256 32 register.old digest.now }
-{
-    if (register.len() == 32) & (digest.len() == 32) {
-        sha256::extend(register, digest);
-        return 0;
+pub struct Sha256;
+
+impl BankHash for Sha256 {
+    ghost hash = { sha256 };
+
+    ghost SIZE = { 32 };
+
+    const SIZE: usize = 32;
+
+    fn digest(message: &[u8], digest: &mut [u8]) {
+        digest.copy_from_slice(&sha256::digest(message));
     }
-    INVALID
+
+    fn extend(register: &mut [u8], digest: &[u8]) {
+        sha256::extend(register, digest);
+    }
+}
+
+// Fills digest, which must have the hash's size, with the digest of message.
+#[tactic(auto, unfolding(crate::specs::Digests::digested))]
+pub fn digest<H: BankHash>(message: &[u8], digest: &mut [u8]) -> u64
+    ensures { outcome result digest.new ≡ digested H.hash H.SIZE message.now digest.old }
+{
+    if digest.len() == H::SIZE {
+        H::digest(message, digest);
+        0
+    } else {
+        INVALID
+    }
+}
+
+// Extends register with digest, both of the hash's size, in the hash's bank.
+#[tactic(auto, unfolding(crate::specs::Digests::extended))]
+pub fn extend<H: BankHash>(register: &mut [u8], digest: &[u8]) -> u64
+    ensures { outcome result register.new ≡ extended H.hash H.SIZE register.old digest.now }
+{
+    if register.len() == H::SIZE && digest.len() == H::SIZE {
+        H::extend(register, digest);
+        0
+    } else {
+        INVALID
+    }
 }

@@ -12,12 +12,14 @@ ghost use Rattle.call_read.specs.ReadCall.{read_call_outcome, read_call};
 ghost use Rattle.call_replay.specs.Replays.{begin_call_outcome, begin_call, slice_call_outcome, slice_call};
 ghost use Rattle.version.specs.Version.{version};
 
+use digests::{Sha1, Sha256};
+
 // Fills digest, which must be 20 bytes, with the SHA-1 digest of message.
 #[unsafe(no_mangle)]
 pub extern "C" fn sevgharin_sha1(message: &[u8], digest: &mut [u8]) -> u64
     ensures { outcome result digest.new ≡ digested sha1 20 message.now digest.old }
 {
-    digests::sha1(message, digest)
+    digests::digest::<Sha1>(message, digest)
 }
 
 // Fills digest, which must be 32 bytes, with the SHA-256 digest of message.
@@ -25,7 +27,7 @@ pub extern "C" fn sevgharin_sha1(message: &[u8], digest: &mut [u8]) -> u64
 pub extern "C" fn sevgharin_sha256(message: &[u8], digest: &mut [u8]) -> u64
     ensures { outcome result digest.new ≡ digested sha256 32 message.now digest.old }
 {
-    digests::sha256(message, digest)
+    digests::digest::<Sha256>(message, digest)
 }
 
 // Extends register with digest, both 20 bytes, in the SHA-1 bank.
@@ -33,7 +35,7 @@ pub extern "C" fn sevgharin_sha256(message: &[u8], digest: &mut [u8]) -> u64
 pub extern "C" fn sevgharin_sha1_extend(register: &mut [u8], digest: &[u8]) -> u64
     ensures { outcome result register.new ≡ extended sha1 20 register.old digest.now }
 {
-    digests::sha1_extend(register, digest)
+    digests::extend::<Sha1>(register, digest)
 }
 
 // Extends register with digest, both 32 bytes, in the SHA-256 bank.
@@ -41,7 +43,7 @@ pub extern "C" fn sevgharin_sha1_extend(register: &mut [u8], digest: &[u8]) -> u
 pub extern "C" fn sevgharin_sha256_extend(register: &mut [u8], digest: &[u8]) -> u64
     ensures { outcome result register.new ≡ extended sha256 32 register.old digest.now }
 {
-    digests::sha256_extend(register, digest)
+    digests::extend::<Sha256>(register, digest)
 }
 
 // Opens the panel's part. state must be layout::STATE bytes, and is overwritten.

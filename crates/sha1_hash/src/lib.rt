@@ -1,15 +1,14 @@
 // SHA-1 (FIPS 180-4, 6.1) of any lent slice, and of a register and a digest where they lie.
 #![tactic(auto)]
 
-ghost use Rattle.std.specs.Prelude.{◌≡◌, ◌++◌, ◌+◌, ◌%◌, ◌<◌, ◌≤◌, ℕ, length, take, set};
-ghost use Rattle.std.specs.Int.Bits.{bit_xor};
+ghost use Rattle.std.specs.Prelude.{◌≡◌, ◌++◌, ◌+◌, ◌<◌, ◌≤◌, ℕ, length, take, set};
+ghost use Rattle.std.proofs.Common.{lit<};
 ghost use Rattle.std.proofs.lemmas.List.Edits.{sets};
-ghost use Rattle.padding.specs.Words.{rotl, parity, steps, words};
+ghost use Rattle.padding.specs.Words.{parity, steps, words};
 ghost use Rattle.padding.specs.Padding.{padding};
 ghost use Rattle.sha1_hash.specs.Sha1.{next, step_of, join, expanded, rounds, compress, output, H₀, sha1};
 ghost use Rattle.sha1_hash.specs.Sha1 as spec;
 ghost use Rattle.sha1_hash.specs.declared.State.{State};
-ghost use Rattle.std.proofs.Common.{lit<};
 
 use block_hash::BlockHash;
 
@@ -176,6 +175,7 @@ impl BlockHash for State {
 }
 
 // FIPS 180-4, 6.1: the digest of a message.
+#[tactic(auto, unfolding(crate::specs::Sha1::sha1))]
 pub fn digest(m: &[u8]) -> [u8; 20]
     ensures { result ≡ sha1 m.now }
 {

@@ -224,6 +224,7 @@ impl BlockHash for State {
 }
 
 // FIPS 180-4, 6.2: the digest of a message.
+#[tactic(auto, unfolding(crate::specs::Sha256::sha256))]
 pub fn digest(m: &[u8]) -> [u8; 32]
     ensures { result ≡ sha256 m.now }
 {

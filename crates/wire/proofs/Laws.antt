@@ -1,5 +1,5 @@
 -- What the crates above cite of numbers in bytes, over any width, and of runs of stores; and what this crate's own functions rest on. Assumes nothing.
-use Rattle.std.proofs.Common.{ℕ, suc, zero, ◌≡◌, ◌+◌, ◌-◌, ◌*◌, ◌/◌, ◌%◌, ◌^◌, ◌≤◌, ◌<◌, List, [], ◌∷◌, ◌++◌, length, set, drop, take, get_or, refl, sym, ap, ◌∙◌, append-nil, append_assoc, arith, pow-suc, mod-eq_of_lt, add-zero, drop_of_length-le, length-append, length-set, length-take, mul-le-mul_right, length-drop, length-take-le, take_all, drop-drop, get_or-drop, Fits, w8}
+use Rattle.std.proofs.Common.{ℕ, suc, zero, ◌≡◌, ◌+◌, ◌-◌, ◌*◌, ◌/◌, ◌%◌, ◌^◌, ◌≤◌, ◌<◌, List, [], ◌∷◌, ◌++◌, length, set, drop, take, get_or, refl, sym, ap, ◌∙◌, append-nil, append_assoc, arith, pow-suc, mod-eq_of_lt, add-zero, drop_of_length-le, length-append, length-set, length-take, mul-le-mul_right, length-drop, length-take-le, take_all, drop-cons, drop-drop, get_or-drop, Fits, w8}
 use Rattle.std.proofs.Math.Nat.{pow-le-pow_right, one-le-pow}
 use Rattle.std.proofs.Math.Arith.{mod-mul}
 use Rattle.std.proofs.lemmas.List.{take_more_set}
@@ -236,6 +236,21 @@ le_end d bs at w n i v h l k e =
 
 -- what the check tries at each goal of `put_le`
 pub ruleset writing = (length_le, le_turn, le_end)
+
+-- a turn of `put_bytes`: what is left to write, with a byte of it stored
+pub bytes_turn : (d s : List ℕ) (at i : ℕ) {x : ℕ} → i < length s → x ≡ get_or s i 0
+    → sets (set d (at + i) x) (at + (i + 1)) (drop (i + 1) s) ≡ sets d (at + i) (drop i s)
+bytes_turn d s at i h e =
+    let q : i + 1 ≡ suc i = omega arith in
+    let p : at + suc i ≡ suc (at + i) = omega arith in
+    rw (drop-cons s i 0 h, q, p, e)
+
+-- the end of `put_bytes`: nothing is left to write
+pub bytes_end : (d₀ d s : List ℕ) (at i : ℕ) → length s ≤ i → sets d (at + i) (drop i s) ≡ sets d₀ at s → Put d₀ at s (at + length s) d
+bytes_end d₀ d s at i h e = record { next = refl; bytes = rw (drop_of_length-le s h) at e }
+
+-- what the check tries at each goal of `put_bytes`
+pub ruleset copying = (bytes_turn, bytes_end)
 
 -- the number of bytes with one more behind them
 unle_push : (bs : List ℕ) (b : ℕ) → unle (bs ++ b ∷ []) ≡ unle bs + 256 ^ length bs * b

@@ -32,13 +32,16 @@ pub fn get_le(s: &[u8], at: usize, w: usize) -> u64
     v
 }
 
-// Writes the bytes s from place at of d on, and says the place after them.
-#[tactic(auto, using(crate::proofs::Laws::put_over))]
+// Writes the bytes s from place at of d on, and says the place after them. A loop, since copy_from_slice may become a call of memmove
+// where the length is not known when it is compiled, and the archive for firmware has memcpy and memset alone.
+#[tactic(auto, using(crate::proofs::Laws::copying))]
 pub fn put_bytes(d: &mut [u8], at: usize, s: &[u8]) -> usize
     requires { Room d.old at s.now }
     ensures { Put d.old at s.now result d.new }
 {
-    d[at..at + s.len()].copy_from_slice(s);
+    for (i, byte) in s.iter().enumerate() {
+        d[at + i] = *byte;
+    }
     at + s.len()
 }
 

@@ -6,6 +6,7 @@ ghost use Rattle.call_state.specs.Calls.{call_outcome};
 ghost use Rattle.call_open.specs.OpenCall.{open_call};
 
 // Opens the panel's part. state must be layout::STATE bytes, and is overwritten.
+#[tactic(auto, unfolding(crate::specs::OpenCall::open_call))]
 pub fn open(
     state: &mut [u8],
     bitmap: u32,
@@ -18,9 +19,7 @@ pub fn open(
     if state.len() != layout::STATE {
         return digests::INVALID;
     }
-    let r = service::open(bitmap, old, agile, table);
-    let s = r.state;
-    let status = r.status;
-    layout::put_state(state, s);
-    call_state::on_wire(service::number_of(status))
+    let answer = service::open(bitmap, old, agile, table);
+    layout::put_state(state, answer.state);
+    call_state::status_on_wire(answer.status)
 }

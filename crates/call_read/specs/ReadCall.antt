@@ -1,6 +1,5 @@
 -- A reading over a state in lent bytes: what it answers and leaves in what it was lent.
-use Rattle.std.specs.Prelude.{false, cond, ◌||◌, List, ℕ, eqb, length}
-use Rattle.store.specs.declared.Last.TheVariants.{Missing}
+use Rattle.std.specs.Prelude.{false, None, cond, ◌||◌, List, ℕ, eqb, length}
 use Rattle.store.specs.declared.Store.{Store}
 use Rattle.service.specs.Reading.{ReadOutcome, reading_of}
 use Rattle.layout.specs.Layout.{store_bytes, store_length, state_in, encodes}
@@ -22,7 +21,7 @@ filled s answer = cond (eqb (length answer) store_length) (store_bytes s) answer
 
 -- 01: "Refused readings show length 0, no last entry, not closed"
 abbrev pub nothing : Store
-nothing = record { used = 0; closed = false; last = Missing }
+nothing = record { used = 0; closed = false; last = None }
 
 abbrev pub read_refused : ℕ → List ℕ → List ℕ → ReadCallOutcome
 read_refused n state answer = read_call_outcome (on_wire n) state (filled nothing answer)

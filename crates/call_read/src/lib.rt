@@ -4,9 +4,11 @@
 ghost use Rattle.std.specs.Prelude.{◌≡◌, length};
 ghost use Rattle.call_read.specs.ReadCall.{read_call_outcome, filled, nothing, read_call};
 
-use store::{Last, Store};
+use service::Status;
+use store::Store;
 
 // Fills an answer record of layout::STORE bytes with a log's marks.
+#[tactic(auto, using(service::proofs::Writes::writes, layout::proofs::Laws::length_store), unfolding(crate::specs::ReadCall::filled))]
 fn show(answer: &mut [u8], s: Store)
     ensures { answer.new ≡ filled s answer.old }
 {
@@ -19,17 +21,11 @@ fn show(answer: &mut [u8], s: Store)
 fn show_nothing(answer: &mut [u8])
     ensures { answer.new ≡ filled nothing answer.old }
 {
-    show(
-        answer,
-        Store {
-            used: 0,
-            closed: false,
-            last: Last::Missing,
-        },
-    );
+    show(answer, Store::default());
 }
 
 // GetEventLog on the state that lies in state. answer must be layout::STORE bytes, and is filled with the log's used length, closed, last entry.
+#[tactic(auto, using(call_state::proofs::Laws::length_of), unfolding(crate::specs::ReadCall::read_call, crate::specs::ReadCall::filled))]
 pub fn read_log(
     state: &mut [u8],
     format: u32,
@@ -44,22 +40,18 @@ pub fn read_log(
         show_nothing(answer);
         return call_state::DEVICE;
     }
-    let r = service::read_log(layout::state_at(state), format, old, agile, table);
-    let s = r.state;
-    let status = r.status;
-    let last = r.last;
-    let n = service::number_of(status);
-    if !((n == 7) | (answer.len() == layout::STORE)) {
+    let reading = service::read_log(layout::state_at(state), format, old, agile, table);
+    if reading.status != Status::DeviceError && answer.len() != layout::STORE {
         return digests::INVALID;
     }
     show(
         answer,
         Store {
-            used: r.length,
-            closed: r.closed,
-            last: last,
+            used: reading.length,
+            closed: reading.closed,
+            last: reading.last,
         },
     );
-    call_state::keep(state, n == 0, s);
-    call_state::on_wire(n)
+    call_state::keep(state, reading.status == Status::Success, reading.state);
+    call_state::status_on_wire(reading.status)
 }

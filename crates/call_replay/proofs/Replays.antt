@@ -1,21 +1,13 @@
 -- The calls over a replay in lent bytes: no second outcome meets what one states, 35 and 36 leave the replay's bytes, a refused beginning
 -- writes zeros, buffers of another length stay, and what a call leaves encodes the replay that it hands back. Assumes nothing.
-use mathlib.Core.Bool.{Bool, true, false}
-use mathlib.Core.List.{List}
-use mathlib.Core.Logic.{◌⊎◌, inl, inr}
-use mathlib.Core.Path.{◌≡◌, refl, sym, ap, ◌∙◌}
-use Prim.Native.Nat.{ℕ}
-use borrow.Author.Tests.{eq-eqb}
-use lib.Dec.{leb}
-use lib.ListN.{length, replicate}
+use Rattle.std.proofs.Common.{◌&&◌, eqb, ne_eqb, arith, tests, Bool, true, false, List, ◌⊎◌, ◌≡◌, refl, ap, ℕ, eq-eqb, length, replicate}
 use Rattle.wire.specs.Bytes.{le, Bytes}
 use Rattle.replay.specs.Replay.{blank, BeginOutcome, begin_of, slice_of}
 use Rattle.replay.proofs.Begins.{refused_blank}
-use Rattle.placed.specs.Placed.{replay_bytes, replay_length, replay_in}
+use Rattle.placed.specs.Placed.{replay_bytes, replay_length, replay_in, answer_length}
 use Rattle.placed.proofs.Codec.{decode_encode, held_in}
 use Rattle.placed.proofs.Holds.{held_begin, held_slice, kept_slice}
 use Rattle.call_replay.specs.Replays.{BeginCallOutcome, begin_call_outcome, begin_call, carried_if, SliceCallOutcome, slice_call_outcome, slice_call}
-use Rattle.call_replay.proofs.Slices.{sized, replay_sized, begin_short, slice_short}
 
 -- ---- no second outcome
 
@@ -26,9 +18,7 @@ pub record SameBeginCall (r r' : ℕ) (replay replay' : List ℕ) : Type 0 where
 -- no second number and no second content of the replay's bytes meets what `begin` states
 pub unique_begin_call : (o : BeginCallOutcome) (r r' : ℕ) (replay replay' : List ℕ) → begin_call_outcome r replay ≡ o → begin_call_outcome r' replay' ≡ o
     → SameBeginCall r r' replay replay'
-unique_begin_call o r r' replay replay' p q =
-    let e : begin_call_outcome r replay ≡ begin_call_outcome r' replay' = p ∙ sym q in
-    record { number = ap (λ (x : BeginCallOutcome). x.number) e; replays = ap (λ (x : BeginCallOutcome). x.replay) e }
+unique_begin_call o r r' replay replay' p q = grind arith
 
 pub record SameSliceCall (r r' : ℕ) (replay replay' answer answer' : List ℕ) : Type 0 where
   pub number : r ≡ r'
@@ -38,13 +28,7 @@ pub record SameSliceCall (r r' : ℕ) (replay replay' answer answer' : List ℕ)
 -- nor what `slice` states
 pub unique_slice_call : (o : SliceCallOutcome) (r r' : ℕ) (replay replay' answer answer' : List ℕ) → slice_call_outcome r replay answer ≡ o
     → slice_call_outcome r' replay' answer' ≡ o → SameSliceCall r r' replay replay' answer answer'
-unique_slice_call o r r' replay replay' answer answer' p q =
-    let e : slice_call_outcome r replay answer ≡ slice_call_outcome r' replay' answer' = p ∙ sym q in
-    record {
-      number = ap (λ (x : SliceCallOutcome). x.number) e;
-      replays = ap (λ (x : SliceCallOutcome). x.replay) e;
-      answers = ap (λ (x : SliceCallOutcome). x.answer) e;
-    }
+unique_slice_call o r r' replay replay' answer answer' p q = grind arith
 
 -- ---- beginnings
 
@@ -56,7 +40,8 @@ zeros = refl
 module _ (replay : List ℕ) (format : ℕ) (log : List ℕ) where
   -- a replay's buffer of another length answers 35 and stays
   pub begin_unchanged : (length replay ≡ replay_length → ⊥) → begin_call replay format log ≡ begin_call_outcome 35 replay
-  begin_unchanged h = sym (begin_short replay format log h)
+  unfolding begin_call
+  begin_unchanged h = rw (ne_eqb _ _ h)
 
   -- in one of its length the numbers are the beginning's
   pub begin_number : length replay ≡ replay_length → (begin_call replay format log).number ≡ (begin_of format log).number
@@ -78,50 +63,35 @@ module _ (replay : List ℕ) (format : ℕ) (log : List ℕ) where
 
 -- ---- slices
 
+-- both buffers have their lengths
+abbrev pub sized : List ℕ → List ℕ → Bool
+sized replay answer = eqb (length replay) replay_length && eqb (length answer) answer_length
+
+replay_sized : (replay answer : List ℕ) → sized replay answer ≡ true → length replay ≡ replay_length
+replay_sized replay answer h = grind (arith, tests)
+
 module _ (replay log : List ℕ) (asked : ℕ) (answer : List ℕ) where
   abbrev call : SliceCallOutcome
   call = slice_call replay log asked answer
 
   -- a replay's buffer or an answer record of another length answers 35, and both stay
   pub slice_unchanged : sized replay answer ≡ false → call ≡ slice_call_outcome 35 replay answer
-  slice_unchanged h = sym (slice_short replay log asked answer h)
+  unfolding slice_call
+  slice_unchanged h = rw h
 
   -- in buffers of their lengths the numbers are the slice's
   pub slice_number : sized replay answer ≡ true → call.number ≡ (slice_of (replay_in replay) log asked).number
   unfolding slice_call
   slice_number h = rw h
 
-  stays_35 : sized replay answer ≡ true → (slice_of (replay_in replay) log asked).number ≡ 35 → call.replay ≡ replay
-  unfolding slice_call carried_if
-  stays_35 h e = rw (h, e)
-
-  stays_36 : sized replay answer ≡ true → (slice_of (replay_in replay) log asked).number ≡ 36 → call.replay ≡ replay
-  unfolding slice_call carried_if
-  stays_36 h e = rw (h, e)
-
   -- 01: "In a slice 35 and 36 .. hand it back as given"
   pub held_bytes : (call.number ≡ 35) ⊎ (call.number ≡ 36) → call.replay ≡ replay
-  held_bytes = go (sized replay answer) refl
-    where
-      go : (b : Bool) → sized replay answer ≡ b → (call.number ≡ 35) ⊎ (call.number ≡ 36) → call.replay ≡ replay
-      go true h (inl e) = stays_35 h (sym (slice_number h) ∙ e)
-      go true h (inr e) = stays_36 h (sym (slice_number h) ∙ e)
-      go false h e = ap (λ (x : SliceCallOutcome). x.replay) (slice_unchanged h)
-
-  written : sized replay answer ≡ true → leb (slice_of (replay_in replay) log asked).number 34 ≡ true → call.replay ≡ replay_bytes (slice_of (replay_in replay) log asked).replay
   unfolding slice_call carried_if
-  written h e = rw (h, e)
-
-  not_written : sized replay answer ≡ true → leb (slice_of (replay_in replay) log asked).number 34 ≡ false → call.replay ≡ replay
-  unfolding slice_call carried_if
-  not_written h e = rw (h, e)
+  held_bytes h = grind (arith, tests)
 
   -- the bytes that a slice leaves encode the replay that it hands back, whatever the number: slice after slice over the bytes is slice after slice
   pub slice_carries : Bytes replay → sized replay answer ≡ true → replay_in call.replay ≡ (slice_of (replay_in replay) log asked).replay
-  slice_carries b h = go (leb (slice_of (replay_in replay) log asked).number 34) refl
-    where
-      go : (t : Bool) → leb (slice_of (replay_in replay) log asked).number 34 ≡ t → replay_in call.replay ≡ (slice_of (replay_in replay) log asked).replay
-      go true e =
-          ap replay_in (written h e)
-          ∙ (decode_encode (slice_of (replay_in replay) log asked).replay (held_slice (replay_in replay) log asked (held_in replay b (replay_sized replay answer h)))).1
-      go false e = ap replay_in (not_written h e) ∙ sym (kept_slice (replay_in replay) log asked e)
+  unfolding slice_call carried_if
+  slice_carries b h =
+      let o = slice_of (replay_in replay) log asked in
+      grind (arith, (decode_encode o.replay (held_slice (replay_in replay) log asked (held_in replay b (replay_sized replay answer h)))).1, kept_slice (replay_in replay) log asked)

@@ -1,9 +1,5 @@
 -- What a request's answers come to. Assumes nothing.
-use mathlib.Core.Bool.{true, false, ◌||◌}
-use mathlib.Core.List.{List}
-use mathlib.Core.Path.{◌≡◌}
-use Prim.Native.Nat.{ℕ}
-use lib.Dec.{eqb}
+use Rattle.std.proofs.Common.{Bool, true, false, ◌||◌, List, ◌≡◌, ℕ, eqb}
 use Rattle.service.specs.declared.State.{State}
 use Rattle.service.specs.declared.Answer.{Answer}
 use Rattle.service.specs.Status.{number}
@@ -19,8 +15,8 @@ module _ (state : List ℕ) (flags : ℕ) (message request old agile table : Lis
   unfolding request_call
   request_refused h = rw h
 
-  pub requests : (r : Answer) (s : State) (state' old' agile' table' : List ℕ) (n w : ℕ) → encodes state ≡ true → s ≡ state_in state
-      → outcome_of r old' agile' table' ≡ request_of s flags message request old agile table → n ≡ number r.status
-      → state' ≡ kept_if (eqb n 0 || eqb n 11) r.state state → w ≡ on_wire n → call_outcome w state' old' agile' table' ≡ request_call state flags message request old agile table
+  pub requests : (r : Answer) (s : State) (state' old' agile' table' : List ℕ) (w : ℕ) {k : Bool} → encodes state ≡ true → s ≡ state_in state
+      → outcome_of r old' agile' table' ≡ request_of s flags message request old agile table → k ≡ (eqb (number r.status) 0 || eqb (number r.status) 11)
+      → state' ≡ kept_if k r.state state → w ≡ on_wire (number r.status) → call_outcome w state' old' agile' table' ≡ request_call state flags message request old agile table
   unfolding request_call
-  requests r s state' old' agile' table' n w h d e f k g = rw (h, ← d, ← e, g, k, f)
+  requests r s state' old' agile' table' w h d e g k f = rw (h, ← d, ← e, k, g, f)

@@ -20,7 +20,7 @@ pub fn request(
     if !layout::encodes(state) {
         return call_state::DEVICE;
     }
-    let r = request::request(
+    let answer = request::request(
         layout::state_at(state),
         flags,
         message,
@@ -29,9 +29,6 @@ pub fn request(
         agile,
         table,
     );
-    let s = r.state;
-    let status = r.status;
-    let n = service::number_of(status);
-    call_state::keep(state, (n == 0) | (n == 11), s);
-    call_state::on_wire(n)
+    call_state::keep(state, answer.status.is_accepted(), answer.state);
+    call_state::status_on_wire(answer.status)
 }

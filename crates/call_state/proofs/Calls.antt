@@ -1,7 +1,5 @@
 -- No second outcome meets what an opening or a request over a state in lent bytes states. Assumes nothing.
-use mathlib.Core.List.{List}
-use mathlib.Core.Path.{◌≡◌, sym, ap, ◌∙◌}
-use Prim.Native.Nat.{ℕ}
+use Rattle.std.proofs.Common.{List, ◌≡◌, ℕ, arith}
 use Rattle.call_state.specs.Calls.{CallOutcome, call_outcome}
 
 -- two answers that are the same outcome are the same status and leave the same bytes in every lent buffer
@@ -16,11 +14,4 @@ pub record SameCall (r r' : ℕ) (state state' old old' agile agile' table table
 pub unique_call : (o : CallOutcome) (r r' : ℕ) (state state' old old' agile agile' table table' : List ℕ) → call_outcome r state old agile table ≡ o
     → call_outcome r' state' old' agile' table' ≡ o → SameCall r r' state state' old old' agile agile' table table'
 unique_call o r r' state state' old old' agile agile' table table' p q =
-    let e : call_outcome r state old agile table ≡ call_outcome r' state' old' agile' table' = p ∙ sym q in
-    record {
-      status = ap (λ (x : CallOutcome). x.status) e;
-      states = ap (λ (x : CallOutcome). x.state) e;
-      olds = ap (λ (x : CallOutcome). x.old) e;
-      agiles = ap (λ (x : CallOutcome). x.agile) e;
-      tables = ap (λ (x : CallOutcome). x.table) e;
-    }
+    record { status = grind arith; states = grind arith; olds = grind arith; agiles = grind arith; tables = grind arith }

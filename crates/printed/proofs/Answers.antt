@@ -1,14 +1,6 @@
 -- What the program prints, case by case, and that the first 65,537 bytes of an input are enough. Assumes nothing.
-use mathlib.Core.Bool.{Bool, true, false}
-use mathlib.Core.List.{List}
-use mathlib.Core.Logic.{◌⊎◌, inl, inr}
-use mathlib.Core.Path.{◌≡◌, refl, sym, ap, ◌∙◌}
-use Prim.Native.Nat.{ℕ, ◌+◌, ◌≤◌, ◌<◌}
-use native.Mathlib.Omega.{arith}
-use borrow.Author.Tests.{le-leb, lt-leb, leb-true, leb-false, ne_eqb}
-use lib.Dec.{leb, eqb}
-use lib.ListN.{length, take}
-use lib.Seq.{take_all, length-take-le}
+use Rattle.std.proofs.Common.{tests, Bool, true, false, List, ◌⊎◌, inl, inr, ◌≡◌, refl, sym, ap, ◌∙◌, ℕ, ◌+◌, ◌≤◌, ◌<◌, arith, le-leb, leb-true, leb-false, ne_eqb, leb, eqb, length, take, take_all, length-take-le}
+use Rattle.std.proofs.lemmas.Bool.{lt-leb}
 use Rattle.entry.specs.Entry.{log_limit}
 use Rattle.entry.specs.Header.{find}
 use Rattle.replay.specs.Replay.{SliceOutcome, begin_of, slice_of}
@@ -64,10 +56,4 @@ module _ (log : List ℕ) (b : (begin_of 2 log).number ≡ 0) where
 
 -- a program that stops reading after 65,537 bytes prints the same
 pub first_bytes : (log : List ℕ) → output (take (log_limit + 1) log) ≡ output log
-first_bytes log = go (leb (length log) log_limit) refl
-  where
-    go : (b : Bool) → leb (length log) log_limit ≡ b → output (take (log_limit + 1) log) ≡ output log
-    go true e = ap output (take_all (log_limit + 1) log (omega (arith, leb-true (length log) log_limit e)))
-    go false e =
-        let h = leb-false (length log) log_limit e in
-        prints_36 (take (log_limit + 1) log) (omega (arith, length-take-le (log_limit + 1) log (omega arith))) ∙ sym (prints_36 log h)
+first_bytes log = grind (arith, tests, take_all (log_limit + 1) log, length-take-le (log_limit + 1) log, prints_36)

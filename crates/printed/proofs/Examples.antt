@@ -1,8 +1,5 @@
 -- Document 01, Program: the whole output for the header alone, and two refusals. Assumes nothing.
-use mathlib.Core.List.{List, [], ◌∷◌, ◌++◌}
-use mathlib.Core.Path.{◌≡◌, refl}
-use Prim.Native.Nat.{ℕ}
-use lib.ListN.{replicate}
+use Rattle.std.proofs.Common.{List, [], ◌∷◌, ◌++◌, ◌≡◌, refl, ℕ, replicate}
 use Rattle.wire.specs.Bytes.{le}
 use Rattle.hex_digits.specs.Hex.{hex_of}
 use Rattle.bank.specs.Bank.{banks, table, valid}

@@ -1,10 +1,5 @@
 -- The one slice that is printed takes the whole log: it is refused, or it is done. Assumes nothing.
-use mathlib.Core.Bool.{true}
-use mathlib.Core.List.{List, [], ◌∷◌}
-use mathlib.Core.Path.{◌≡◌, refl, ap, ◌∙◌}
-use Prim.Native.Nat.{ℕ, zero, suc, ◌≤◌}
-use native.Mathlib.Omega.{arith}
-use lib.ListN.{length, drop, length-drop}
+use Rattle.std.proofs.Common.{true, List, [], ◌∷◌, ◌≡◌, refl, ap, ◌∙◌, ℕ, zero, suc, ◌≤◌, arith, length, drop, length-drop}
 use Rattle.entry.specs.Read.{Read, got, bad}
 use Rattle.replay.specs.declared.Replay.{Replay}
 use Rattle.replay_walk.specs.Walk.{fine, Walk, more, on_read, walk}
@@ -16,19 +11,12 @@ use Rattle.replay.proofs.Replays.{walks, exactly_0}
 use Rattle.replay.proofs.Slices.{slice_replay, done_place}
 
 module _ {A S : Type 0} (read : List ℕ → Read A) (act : A → S → S) (h : Eats 1 read) where
-  step : (n c : ℕ) (s : List ℕ) (x : S)
-      → ((s' : List ℕ) (y : S) → length s' ≤ n → (walk read act n s' y).stop ≡ fine → length (walk read act n s' y).left ≡ 0)
-      → (r : Read A) → read (c ∷ s) ≡ r → length (c ∷ s) ≤ suc n → (on_read r (c ∷ s) x (λ e s'. more (walk read act n s' (act e x)))).stop ≡ fine
-      → length (on_read r (c ∷ s) x (λ e s'. more (walk read act n s' (act e x)))).left ≡ 0
-  step n c s x ih (got e s') q l t = ih s' (act e x) (omega (arith, h.size e (c ∷ s) s' q)) t
-  step n c s x ih (bad m) q l t = absurd (let z : ◌≡◌ {A = ℕ} 0 1 = cc in omega arith)
-
   -- a walk that is asked for as many entries as there are bytes, and isn't refused, leaves no byte
   pub to_end : (n : ℕ) (s : List ℕ) (x : S) → length s ≤ n → (walk read act n s x).stop ≡ fine → length (walk read act n s x).left ≡ 0
   unfolding walk
   to_end zero s x l t = omega arith
   to_end (suc n) [] x l t = refl
-  to_end (suc n) (c ∷ s) x l t = step n c s x (to_end n) (read (c ∷ s)) refl l t
+  to_end (suc n) (c ∷ s) x l t = grind (arith, h.size, to_end n)
 
 -- a slice that is asked for as many entries as the log has bytes is refused or done
 pub whole_log : (p : Replay) (log : List ℕ) → (slice_of p log (length log)).number ≡ 0 → (slice_of p log (length log)).done ≡ true

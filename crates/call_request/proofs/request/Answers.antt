@@ -1,7 +1,6 @@
--- `call_request::request` meets its contract. Assumes nothing.
-use Rattle.call_state.proofs.Laws.{number_small, length_of}
+use Rattle.std.proofs.Common.{sym, ◌∙◌}
+use Rattle.call_state.proofs.Laws.{length_of}
 use Rattle.call_request.proofs.Laws.{request_refused, requests}
-use mathlib.Core.Path.{sym, ◌∙◌}
 use Rattle.call_request.proofs.request.Goals as goal
 
 pub returns-then-not-encodes : goal.returns-then-not-encodes
@@ -15,12 +14,8 @@ state_at-requires c = length_of c.args.state.now (sym c.encodes.ensures ∙ c.if
 pub keep-requires : goal.keep-requires
 keep-requires c = length_of c.args.state.now (sym c.encodes.ensures ∙ c.if-not-encodes.false)
 
-pub on_wire-requires : goal.on_wire-requires
-on_wire-requires c = rw c.number_of-n.ensures (number_small c.request-r.result.status)
-
 pub returns : goal.returns
 returns c =
     let a = c.args in
-    let o = c.request-r in
-    requests a.state.now a.flags a.message.now a.request.now a.old.now a.agile.now a.table.now o.result c.state_at.result _ _ _ _ c.number_of-n.result c.on_wire.result
-    (sym c.encodes.ensures ∙ c.if-not-encodes.false) c.state_at.ensures o.ensures c.number_of-n.ensures c.keep.ensures c.on_wire.ensures
+    requests a.state.now a.flags a.message.now a.request.now a.old.now a.agile.now a.table.now c.request-answer.result c.state_at.result _ _ _ _ c.status_on_wire.result
+    (sym c.encodes.ensures ∙ c.if-not-encodes.false) c.state_at.ensures c.request-answer.ensures c.is_accepted.ensures c.keep.ensures c.status_on_wire.ensures

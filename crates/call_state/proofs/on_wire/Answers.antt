@@ -1,9 +1,0 @@
--- `call_state::on_wire` meets its contract. Assumes nothing.
-use borrow.Author.Tests.{eq-eqb, ne_eqb}
-use Rattle.call_state.proofs.on_wire.Goals as goal
-
-pub returns-then-n-eq0 : goal.returns-then-n-eq0
-returns-then-n-eq0 c = rw (eq-eqb _ _ c.if-n-eq0.true)
-
-pub returns : goal.returns
-returns c = rw (ne_eqb _ _ c.if-n-eq0.false)

@@ -1,15 +1,8 @@
 -- The laws of banks and of their registers, over any list of banks; those of the table at the end of each part. Assumes nothing.
-use mathlib.Core.Bool.{Bool, true, false}
-use mathlib.Core.Logic.{◌⊎◌, inl, inr, ⊎_elim}
-use mathlib.Core.Path.{◌≡◌, refl, sym, ap, ap₂, ◌∙◌}
-use mathlib.Core.List.{List, [], ◌∷◌, ◌++◌, append_assoc}
-use Prim.Native.Nat.{ℕ, zero, suc, ◌+◌, ◌-◌, ◌*◌, ◌≤◌, ◌<◌}
-use native.Mathlib.Nat.{suc-mul, eq-or-lt_of_le, mul-le-mul_right}
-use native.Mathlib.Omega.{arith}
-use borrow.Author.Tests.{leb-true, ltb-true, ltb-false, eqb-true, eqb-false}
-use lib.Dec.{leb, ltb, eqb}
-use lib.ListN.{length, take, drop, get_or, set, replicate, length-append, length-drop, length-replicate}
-use lib.Seq.{sets, length-sets, length-take-le, drop-set-lt, drop-set-add, take-set-le}
+use Rattle.std.proofs.Common.{Bool, true, false, ◌⊎◌, inl, inr, ⊎_elim, ◌≡◌, refl, sym, ap, ap₂, ◌∙◌, List, [], ◌∷◌, ◌++◌, append_assoc, ℕ, zero, suc, ◌+◌, ◌-◌, ◌*◌, ◌≤◌, ◌<◌, suc-mul, eq-or-lt_of_le, mul-le-mul_right, arith, leb-true, ltb-true, ltb-false, eqb-true, leb, ltb, eqb, length, take, drop, get_or, set, replicate, length-append, length-drop, length-take-le, drop-set-lt}
+use Rattle.std.proofs.lemmas.Bool.{eqb-false}
+use Rattle.std.proofs.Math.ListN.{length-replicate}
+use Rattle.std.proofs.Math.Seq.{sets, length-sets, drop-set-add, take-set-le}
 use Rattle.wire.specs.Bytes.{part}
 use Rattle.wire.proofs.Laws.{part_here, part_put}
 use Rattle.wire.proofs.Tests.{both}
@@ -19,7 +12,7 @@ use Rattle.sha1_hash.specs.Sha1 as Sha1
 use Rattle.sha1_hash.proofs.Laws as sha1-laws
 use Rattle.sha256.specs.Sha256 as Sha256
 use Rattle.sha256.proofs.Laws as sha256-laws
-use Rattle.bank.specs.Bank.{Bank, sha1_bank, sha256_bank, table, rows, bank_at, active, keep, active_of, valid, banks}
+use Rattle.bank.specs.Bank.{Bank, sha1_bank, sha256_bank, table, rows, active, keep, active_of, valid, banks}
 use Rattle.bank.specs.Registers.{digests_length, registers_length, place, value, extend, extend_all, reset_first, reset_of, reset_all, digest_in, digests_in, hash_all, hashes}
 
 -- ---- lists of banks
@@ -39,17 +32,6 @@ module _ (P : Bank → Type 0) where
   pub all_active : (bitmap : ℕ) (bs : List Bank) → All P bs → All P (active_of bitmap bs)
   all_active bitmap [] h = h
   all_active bitmap (b ∷ bs) h = kept (active bitmap b) b (active_of bitmap bs) h.0 (all_active bitmap bs h.1)
-
-  -- it holds of the one at a place
-  pub all_at : (bs : List Bank) (d : Bank) (i : ℕ) → All P bs → i < length bs → P (get_or bs i d)
-  all_at [] d i h k = absurd (omega arith)
-  all_at (b ∷ bs) d zero h k = h.0
-  all_at (b ∷ bs) d (suc i) h k = all_at bs d i h.1 (omega arith)
-
-  -- what holds of each bank of the table holds of the one in row i
-  pub all_row : (i : ℕ) → All P table → i < rows → P (bank_at i)
-  unfolding table bank_at
-  all_row i h k = all_at table sha1_bank i h k
 
   -- and of each active one
   pub all_banks : (bitmap : ℕ) → All P table → All P (banks bitmap)
@@ -153,9 +135,6 @@ laid_table = tight_laid 0 table tight_table
 pub laid_banks : (bitmap : ℕ) → Laid 0 (banks bitmap)
 unfolding banks
 laid_banks bitmap = laid_active bitmap 0 table laid_table
-
-pub within_row : (i : ℕ) → i < rows → (bank_at i).from + (bank_at i).size ≤ digests_length
-within_row i h = all_row Within i (laid_within 0 table laid_table) h
 
 -- ---- a part beside a run of stores stays, and the run itself is found
 
@@ -336,7 +315,7 @@ pub banks_3 : banks 3 ≡ sha1_bank ∷ (sha256_bank ∷ [])
 unfolding banks table
 banks_3 = refl
 
--- how few active banks there are, and how short each row's digest
+-- how few active banks there are
 pub few_of : (bitmap : ℕ) (bs : List Bank) → length (active_of bitmap bs) ≤ length bs
 few_of bitmap [] = omega arith
 few_of bitmap (b ∷ bs) = kept (active bitmap b) (few_of bitmap bs)
@@ -348,9 +327,6 @@ few_of bitmap (b ∷ bs) = kept (active bitmap b) (few_of bitmap bs)
 pub few_banks : (bitmap : ℕ) → length (banks bitmap) ≤ rows
 unfolding banks table
 few_banks bitmap = few_of bitmap table
-
-pub size_row : (i : ℕ) → i < rows → (bank_at i).size ≤ digests_length
-size_row i h = omega (arith, within_row i h)
 
 -- a bitmap of the table's banks
 pub valid_cases : (bitmap : ℕ) → valid bitmap ≡ true → (bitmap ≡ 1) ⊎ ((bitmap ≡ 2) ⊎ (bitmap ≡ 3))

@@ -1,5 +1,5 @@
 -- Document 01, Banks: what each bank knows, the table of banks, and the active ones.
-use Rattle.std.specs.Prelude.{Bool, true, false, cond, ◌&&◌, List, [], ◌∷◌, ℕ, ◌/◌, ◌%◌, leb, eqb, get_or}
+use Rattle.std.specs.Prelude.{Bool, true, false, cond, ◌&&◌, List, [], ◌∷◌, ℕ, ◌/◌, ◌%◌, leb, eqb}
 use Rattle.sha1_hash.specs.Sha1.{sha1}
 use Rattle.sha256.specs.Sha256.{sha256}
 
@@ -32,10 +32,6 @@ table = sha1_bank ∷ (sha256_bank ∷ [])
 -- how many rows the table has
 abbrev pub rows : ℕ
 rows = 2
-
--- the bank in row i of the table
-unfoldable pub bank_at : ℕ → Bank
-bank_at i = get_or table i sha1_bank
 
 -- 01: "Active bitmap": the bank's bit is set
 abbrev pub active : ℕ → Bank → Bool

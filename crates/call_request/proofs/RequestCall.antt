@@ -1,9 +1,5 @@
 -- A refused request over a state in lent bytes changes nothing. Assumes nothing.
-use mathlib.Core.Bool.{Bool, true, false}
-use mathlib.Core.List.{List}
-use mathlib.Core.Path.{◌≡◌, refl, sym, ap, ◌∙◌}
-use Prim.Native.Nat.{ℕ}
-use lib.ListN.{length}
+use Rattle.std.proofs.Common.{Bool, true, false, List, ◌≡◌, refl, sym, ap, ◌∙◌, ℕ, length}
 use Rattle.service.specs.State.{belongs}
 use Rattle.service.specs.Answer.{Outcome, untouched}
 use Rattle.request_checks.specs.Checks.{well_formed}

@@ -1,13 +1,6 @@
 -- What measurements make of one bank's registers is the same, whichever other banks are extended beside it. Assumes nothing.
-use mathlib.Core.Bool.{Bool, true, false}
-use mathlib.Core.List.{List, [], ◌∷◌, ◌++◌}
-use mathlib.Core.Logic.{◌⊎◌, inl, inr}
-use mathlib.Core.Path.{◌≡◌, refl, sym, ap, ◌∙◌}
-use Prim.Native.Nat.{ℕ, ◌+◌, ◌≤◌}
-use native.Mathlib.Omega.{arith}
-use borrow.Author.Tests.{eqb-true, eqb-false}
-use lib.Dec.{eqb}
-use lib.ListN.{length}
+use Rattle.std.proofs.Common.{Bool, true, false, List, [], ◌∷◌, ◌++◌, ◌⊎◌, inl, inr, ◌≡◌, refl, sym, ap, ◌∙◌, ℕ, ◌+◌, ◌≤◌, arith, eqb-true, eqb, length}
+use Rattle.std.proofs.lemmas.Bool.{eqb-false}
 use Rattle.bank.specs.Bank.{Bank, valid, banks, table, active, active_of, sha1_bank, sha256_bank}
 use Rattle.bank.specs.Registers.{digests_length, registers_length, value, extend, extend_all, hashes, reset_all}
 use Rattle.bank.proofs.Laws.{All as AllBanks, Lawful, Every, every_banks, Laid, laid_after, laid_banks, banks_1, banks_2, valid_cases, length_extend, length_extend_all, length_reset_all, value_extend_same, value_extend_other, value_extend_apart}

@@ -1,15 +1,7 @@
 -- Demand 3: after a successful opening, for any sequence of requests and readings, refused ones too, replaying a kept log gives what its recorded
 -- measurements make of the reset values in the banks it covers; and where none was extend-only and a last reading reports the log not cut off, it gives
 -- those banks themselves, however it is sliced. Assumes nothing.
-use mathlib.Core.Bool.{true, false, cond}
-use mathlib.Core.List.{List, [], ◌∷◌, ◌++◌}
-use mathlib.Core.Path.{◌≡◌, refl, sym, ap, ◌∙◌}
-use Prim.Native.Nat.{ℕ, ◌≤◌, ◌<◌}
-use native.Mathlib.Omega.{arith}
-use mathlib.Core.Logic.{◌⊎◌, inl, inr}
-use borrow.Author.Tests.{le-leb}
-use lib.Dec.{eqb}
-use lib.ListN.{length, take, length-take}
+use Rattle.std.proofs.Common.{true, false, cond, List, [], ◌∷◌, ◌++◌, ◌≡◌, refl, sym, ap, ◌∙◌, ℕ, ◌≤◌, ◌<◌, arith, ◌⊎◌, inl, inr, le-leb, eqb, length, take, length-take}
 use Rattle.bank.specs.Bank.{Bank, banks, active, sha1_bank, sha256_bank}
 use Rattle.bank.specs.Registers.{reset_all}
 use Rattle.bank.proofs.Laws.{Every, every_banks, few_banks, banks_1, valid_cases}

@@ -1,14 +1,7 @@
 -- What holds of the panel after a successful opening and after every call: the state belongs to its buffers, and the table's count stays below its
 -- limit. Assumes nothing.
-use mathlib.Core.Bool.{Bool, true, false, ◌||◌}
-use mathlib.Core.List.{List, [], ◌∷◌}
-use mathlib.Core.Path.{◌≡◌, refl, ap, ◌∙◌}
-use Prim.Native.Nat.{ℕ, ◌+◌, ◌*◌, ◌≤◌, ◌<◌}
-use native.Mathlib.Omega.{arith}
-use borrow.Author.Tests.{leb-true, le-leb, lt-ltb}
-use lib.Dec.{leb, eqb}
-use lib.ListN.{length}
-use lib.Seq.{sets}
+use Rattle.std.proofs.Common.{Bool, true, false, ◌||◌, List, [], ◌∷◌, ◌≡◌, refl, ap, ◌∙◌, ℕ, ◌+◌, ◌*◌, ◌≤◌, ◌<◌, arith, leb-true, le-leb, lt-ltb, leb, eqb, length}
+use Rattle.std.proofs.Math.Seq.{sets}
 use Rattle.wire.specs.Bytes.{le}
 use Rattle.bank.specs.Bank.{valid, banks, active, sha1_bank}
 use Rattle.bank.proofs.Laws.{Every, every_banks, banks_1}

@@ -1,11 +1,5 @@
 -- Every logged request's entry is one that replay takes, where the requests are bytes, as those of every lent slice are. Assumes nothing.
-use mathlib.Core.Bool.{Bool, true, false, cond, not, ◌&&◌}
-use mathlib.Core.List.{List, [], ◌∷◌}
-use mathlib.Core.Path.{◌≡◌, refl}
-use Prim.Native.Nat.{ℕ, ◌+◌, ◌≤◌, ◌<◌, ◌^◌}
-use native.Mathlib.Omega.{arith}
-use lib.Dec.{leb}
-use lib.ListN.{length, length-take, length-drop}
+use Rattle.std.proofs.Common.{Bool, true, false, cond, not, ◌&&◌, List, [], ◌∷◌, ◌≡◌, refl, ℕ, ◌+◌, ◌≤◌, ◌<◌, ◌^◌, arith, leb, length, length-take, length-drop}
 use Rattle.wire.specs.Bytes.{Bytes}
 use Rattle.wire.proofs.Laws.{num_lt}
 use Rattle.wire.proofs.Tests.{both}

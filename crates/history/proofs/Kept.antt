@@ -1,15 +1,7 @@
 -- After a successful opening and any calls: no call answers 7, the logs' used bytes are what was recorded, the table's are what was tabled, and the
 -- registers are what all accepted requests make of the reset values. Assumes nothing.
-use mathlib.Core.Bool.{Bool, true, false, ◌||◌}
-use mathlib.Core.List.{List, [], ◌++◌, append-nil}
-use mathlib.Core.Path.{◌≡◌, refl, sym, ap, subst, ◌∙◌}
-use Prim.Native.Nat.{ℕ, ◌+◌, ◌≤◌}
-use native.Mathlib.Nat.{zero-add}
-use native.Mathlib.Omega.{arith}
-use borrow.Author.Tests.{leb-true, lt-ltb}
-use lib.Dec.{leb}
-use lib.ListN.{length, take, length-append, length-take}
-use lib.Seq.{sets, take_at, take-take, length-take-le}
+use Rattle.std.proofs.Common.{Bool, true, false, ◌||◌, List, [], ◌++◌, append-nil, ◌≡◌, refl, sym, ap, subst, ◌∙◌, ℕ, ◌+◌, ◌≤◌, zero-add, arith, leb-true, lt-ltb, leb, length, take, length-append, length-take, take_at, take-take, length-take-le}
+use Rattle.std.proofs.Math.Seq.{sets}
 use Rattle.wire.specs.Bytes.{le}
 use Rattle.wire.proofs.Laws.{length_le}
 use Rattle.wire.proofs.Tests.{both}

@@ -1,14 +1,6 @@
 -- A log whose bytes are a head and the entries of good measurements is replayed to its end, however it is sliced. Assumes nothing.
-use mathlib.Core.Bool.{true}
-use mathlib.Core.List.{List, [], ◌∷◌, ◌++◌, append_assoc}
-use mathlib.Core.Path.{◌≡◌, refl, sym, ap, ◌∙◌}
-use Prim.Native.Nat.{ℕ, zero, suc, ◌+◌, ◌-◌, ◌≤◌, ◌<◌}
-use native.Mathlib.Nat.{sub-zero}
-use native.Mathlib.Omega.{arith}
-use borrow.Author.Tests.{le-leb, eq-eqb}
-use lib.Dec.{eqb}
-use lib.ListN.{length, take, drop, length-append, length-take, length-drop}
-use lib.Seq.{drop_at}
+use Rattle.std.proofs.Common.{true, List, [], ◌∷◌, ◌++◌, append_assoc, ◌≡◌, refl, sym, ap, ◌∙◌, ℕ, zero, suc, ◌+◌, ◌-◌, ◌≤◌, ◌<◌, arith, le-leb, eq-eqb, eqb, length, take, drop, length-append, length-take, length-drop, drop_at}
+use Rattle.std.proofs.Math.Nat.{sub-zero}
 use Rattle.bank.specs.Bank.{Bank}
 use Rattle.entry.specs.Entry.{log_limit}
 use Rattle.entry.specs.Read.{got}

@@ -1,10 +1,6 @@
 -- What any calls leave in each store and in the registers: the logs were offered all that is logged, the table what is logged while it is armed, and
 -- the registers were extended with all that is accepted. Assumes nothing.
-use mathlib.Core.Bool.{Bool, true, false, not, ◌&&◌}
-use mathlib.Core.List.{List, [], ◌∷◌, ◌++◌}
-use mathlib.Core.Path.{◌≡◌, refl, ap, ◌∙◌}
-use Prim.Native.Nat.{ℕ}
-use native.Mathlib.Omega.{arith}
+use Rattle.std.proofs.Common.{Bool, true, false, not, ◌&&◌, List, [], ◌∷◌, ◌++◌, ◌≡◌, refl, ap, ◌∙◌, ℕ, arith}
 use Rattle.bank.specs.Bank.{banks, active, sha1_bank}
 use Rattle.bank.specs.Registers.{extend_all, hashes}
 use Rattle.entry.specs.Entry.{old_bytes, agile_bytes}

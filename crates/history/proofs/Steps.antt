@@ -1,11 +1,5 @@
 -- What one call makes of the panel, where the state belongs. Assumes nothing.
-use mathlib.Core.Bool.{Bool, true, false, cond, not, ◌&&◌, ◌||◌}
-use mathlib.Core.List.{List, [], ◌∷◌}
-use mathlib.Core.Path.{◌≡◌, refl, ◌∙◌}
-use Prim.Native.Nat.{ℕ}
-use native.Mathlib.Omega.{arith}
-use lib.Dec.{eqb}
-use lib.ListN.{length}
+use Rattle.std.proofs.Common.{Bool, true, false, cond, not, ◌&&◌, ◌||◌, List, [], ◌∷◌, ◌≡◌, refl, ◌∙◌, ℕ, arith, eqb, length}
 use Rattle.bank.specs.Bank.{banks, active, sha1_bank}
 use Rattle.bank.specs.Registers.{extend_all, hashes}
 use Rattle.entry.specs.Entry.{old_bytes, agile_bytes}

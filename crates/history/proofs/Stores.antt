@@ -1,14 +1,7 @@
 -- A log that is offered the entries of some measurements, one after another: it takes those before the first without room, and no other. Assumes
 -- nothing.
-use mathlib.Core.Bool.{Bool, true, false, cond}
-use mathlib.Core.List.{List, [], ◌∷◌, ◌++◌, append_assoc, append-nil}
-use mathlib.Core.Path.{◌≡◌, refl, sym, ap, ◌∙◌}
-use Prim.Native.Nat.{ℕ, ◌+◌, ◌≤◌, ◌<◌}
-use native.Mathlib.Omega.{arith}
-use borrow.Author.Tests.{leb-true}
-use lib.Dec.{leb}
-use lib.ListN.{length, take, drop, length-append}
-use lib.Seq.{sets, take_at, length-take-le}
+use Rattle.std.proofs.Common.{Bool, true, false, cond, List, [], ◌∷◌, ◌++◌, append_assoc, append-nil, ◌≡◌, refl, sym, ap, ◌∙◌, ℕ, ◌+◌, ◌≤◌, ◌<◌, arith, leb-true, leb, length, take, drop, length-append, take_at, length-take-le}
+use Rattle.std.proofs.Math.Seq.{sets}
 use Rattle.wire.proofs.Laws.{put_is, put_length}
 use Rattle.store.specs.Store.{Offered, taken, shut, offered, TableOffered, table_taken, table_shut, table_offered}
 use Rattle.history.specs.History.{Measure, fitting, cut_off, all_bytes}

@@ -1,14 +1,6 @@
 -- The final table that is offered the entries of some measurements, one after another, and what any calls leave in it. Assumes nothing.
-use mathlib.Core.Bool.{Bool, true, false, not, ◌&&◌, ◌||◌}
-use mathlib.Core.List.{List, [], ◌∷◌, ◌++◌, append_assoc, append-nil}
-use mathlib.Core.Path.{◌≡◌, refl, sym, ap, subst, ◌∙◌}
-use Prim.Native.Nat.{ℕ, ◌+◌, ◌≤◌}
-use native.Mathlib.Nat.{add-zero}
-use native.Mathlib.Omega.{arith}
-use borrow.Author.Tests.{leb-true}
-use lib.Dec.{leb}
-use lib.ListN.{length, take, drop, length-append}
-use lib.Seq.{sets, take_at, drop_at}
+use Rattle.std.proofs.Common.{Bool, true, false, not, ◌&&◌, ◌||◌, List, [], ◌∷◌, ◌++◌, append_assoc, append-nil, ◌≡◌, refl, sym, ap, subst, ◌∙◌, ℕ, ◌+◌, ◌≤◌, add-zero, arith, leb-true, leb, length, take, drop, length-append, take_at, drop_at}
+use Rattle.std.proofs.Math.Seq.{sets}
 use Rattle.wire.specs.Bytes.{le}
 use Rattle.wire.proofs.Laws.{length_le}
 use Rattle.bank.specs.Bank.{banks}

@@ -1,11 +1,5 @@
 -- The whole table of the sheet holds, by one computed test, and so does each row's claim. Assumes nothing.
-use mathlib.Core.Bool.{true}
-use mathlib.Core.List.{List, [], ◌∷◌}
-use mathlib.Core.Path.{◌≡◌, refl, ap, ◌∙◌}
-use Prim.Native.Nat.{ℕ}
-use native.Mathlib.Omega.{arith}
-use borrow.Author.Tests.{eqb-true}
-use lib.Dec.{eqb}
+use Rattle.std.proofs.Common.{true, List, [], ◌∷◌, ◌≡◌, refl, ap, ◌∙◌, ℕ, arith, eqb-true, eqb}
 use Rattle.wire.proofs.Tests.{both}
 use Rattle.wire.specs.Bytes.{le, unle, num}
 use Rattle.padding.specs.Words.{run, bytes, number}

@@ -1,6 +1,5 @@
 -- Digests that the checker computes from the definitions.
-use mathlib.Core.Path.{◌≡◌, refl}
-use mathlib.Core.List.{[], ◌∷◌}
+use Rattle.std.proofs.Common.{◌≡◌, refl, [], ◌∷◌}
 use Rattle.padding.specs.Words.{run, bytes, number}
 use Rattle.padding.specs.Padding.{blocks, zeros, ending, padding, hash}
 use Rattle.sha1_hash.specs.Sha1.{sha1, f, K, expanded, rounds, compress, H₀, output}

@@ -1,5 +1,5 @@
 -- What the program prints, case by case, and that the first 65,537 bytes of an input are enough. Assumes nothing.
-use Rattle.std.proofs.Common.{tests, Bool, true, false, List, ◌⊎◌, inl, inr, ◌≡◌, refl, sym, ap, ◌∙◌, ℕ, ◌+◌, ◌≤◌, ◌<◌, arith, le-leb, leb-true, leb-false, ne_eqb, leb, eqb, length, take, take_all, length-take-le}
+use Rattle.std.proofs.Common.{tests, true, false, List, ◌⊎◌, inl, inr, ◌≡◌, refl, ℕ, ◌+◌, ◌≤◌, ◌<◌, arith, le-leb, ne_eqb, eqb, length, take, take_all, length-take-le}
 use Rattle.std.proofs.lemmas.Bool.{lt-leb}
 use Rattle.entry.specs.Entry.{log_limit}
 use Rattle.entry.specs.Header.{find}

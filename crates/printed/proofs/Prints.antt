@@ -1,32 +1,14 @@
--- The whole output: what a beginning and a slice come to, that it finds room, and that no second outcome meets the statement. Assumes nothing.
-use Rattle.std.proofs.Common.{tests, Bool, true, false, cond, List, ◌≡◌, refl, sym, ap, ◌∙◌, ℕ, ◌≤◌, ◌<◌, arith, leb-true, leb, eqb, length, length-append}
-use Rattle.std.proofs.lemmas.List.Edits.{sets}
+-- The whole output: that it finds room, and that no second outcome meets the statement. Assumes nothing.
+use Rattle.std.proofs.Common.{tests, Bool, true, false, cond, List, ◌≡◌, ℕ, ◌≤◌, ◌<◌, arith, eqb, length, length-append}
 use Rattle.std.proofs.Math.Seq.{length-sets}
 use Rattle.bank.specs.Bank.{banks}
-use Rattle.entry.specs.Entry.{log_limit}
-use Rattle.replay.specs.declared.Refusal.{Refusal}
-use Rattle.replay.specs.declared.Refusal.TheVariants.{Entry, PlaceBeyond, LogOver, HeaderNotOurs, FormatUnknown}
-use Rattle.reader.specs.declared.Refusal.TheVariants.{CutShort, RegisterAbove, DigestList, EventOver}
 use Rattle.replay.specs.declared.Replay.{Replay}
-use Rattle.replay.specs.Replay.{number, begin_of, slice_of}
-use Rattle.replay.proofs.Replays.{passes, pass}
+use Rattle.replay.specs.Replay.{begin_of, slice_of}
+use Rattle.replay.proofs.Replays.{pass}
 use Rattle.replay.proofs.Slices.{slice_most}
 use Rattle.printed_lines.specs.Lines.{refused_line, entries_line, banks_lines}
-use Rattle.printed.specs.Printed.{replayed, sliced, began, output, output_limit, Outcome, outcome, printed_of}
+use Rattle.printed.specs.Printed.{replayed, sliced, began, output, output_limit, outcome, printed_of}
 use Rattle.printed_lines.proofs.Lengths.{length_refused, length_entries, length_banks}
-
--- ---- what a slice and a beginning come to
-
--- no refusal has the number 0
-pub some_number : (r : Refusal) → eqb (number r) 0 ≡ false
-some_number (Entry CutShort) = refl
-some_number (Entry RegisterAbove) = refl
-some_number (Entry DigestList) = refl
-some_number (Entry EventOver) = refl
-some_number PlaceBeyond = refl
-some_number LogOver = refl
-some_number HeaderNotOurs = refl
-some_number FormatUnknown = refl
 
 -- ---- how long an output is
 

@@ -1,8 +1,8 @@
 -- The one slice that is printed takes the whole log: it is refused, or it is done. Assumes nothing.
 use Rattle.std.proofs.Common.{true, List, [], ◌∷◌, ◌≡◌, refl, ap, ◌∙◌, ℕ, zero, suc, ◌≤◌, arith, length, drop, length-drop}
-use Rattle.entry.specs.Read.{Read, got, bad}
+use Rattle.entry.specs.Read.{Read}
 use Rattle.replay.specs.declared.Replay.{Replay}
-use Rattle.replay_walk.specs.Walk.{fine, Walk, more, on_read, walk}
+use Rattle.replay_walk.specs.Walk.{fine, Walk, walk}
 use Rattle.replay_walk.specs.Taken.{form_of, takes, place_of}
 use Rattle.replay.specs.Replay.{slice_of}
 use Rattle.replay_walk.proofs.Walks.{Eats}

@@ -32,13 +32,13 @@ pub fn slice(replay: &mut [u8], log: &[u8], asked: u64, answer: &mut [u8]) -> u6
         return PLACE_BEYOND;
     }
     let slice = placed::replay_at(replay).slice(log, asked as usize);
-    placed::put_answer(answer, &slice);
+    let refused = slice.refused;
+    let number = placed::number_of(refused);
+    let offset = placed::offset_of(refused);
+    placed::put_answer(answer, slice.taken, number, offset, slice.done);
     // Refused for anything but an entry, a slice hands the replay back as it was given.
-    if slice
-        .refused
-        .is_none_or(|refused| matches!(refused.refusal, Refusal::Entry(_)))
-    {
+    if refused.is_none_or(|refused| matches!(refused.refusal, Refusal::Entry(_))) {
         placed::put_replay(replay, &slice.replay);
     }
-    placed::number_of(slice.refused)
+    number
 }

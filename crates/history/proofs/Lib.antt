@@ -7,4 +7,6 @@ pub mod Kept
 pub mod Good
 pub mod Replays
 pub mod Banks
+-- a closed store stays, and what an accepted request answers
+pub mod Closed
 pub mod Demand3

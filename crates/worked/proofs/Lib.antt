@@ -1,3 +1,4 @@
 pub mod Sha1
 pub mod Sha256
+pub mod Widths
 pub mod Entry

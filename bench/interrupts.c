@@ -43,7 +43,7 @@ HIDDEN UINT8 decoy[4096];
  * the interrupted rsp, and between them and that rsp is overwritten.
  */
 __asm__(".text\n"
-        ".hidden library_start, library_end\n"
+        ".hidden library_start, library_end, _text, _etext, on_fault\n"
         ".global on_step\n"
         "on_step:\n"
         "    movq %rax, saved_rax(%rip)\n"
@@ -52,10 +52,10 @@ __asm__(".text\n"
         "    movq (%rsp), %rax\n"
         "    leaq library_start(%rip), %rcx\n"
         "    cmpq %rcx, %rax\n"
-        "    jb 1f\n"
+        "    jb 2f\n"
         "    leaq library_end(%rip), %rcx\n"
         "    cmpq %rcx, %rax\n"
-        "    jae 1f\n"
+        "    jae 2f\n"
         "    incq steps(%rip)\n"
         "    decq left(%rip)\n"
         "    jnz 1f\n"
@@ -78,7 +78,14 @@ __asm__(".text\n"
         "1:  movq saved_rax(%rip), %rax\n"
         "    movq saved_rcx(%rip), %rcx\n"
         "    movq saved_rdi(%rip), %rdi\n"
-        "    iretq\n");
+        "    iretq\n"
+        "2:  leaq _text(%rip), %rcx\n"
+        "    cmpq %rcx, %rax\n"
+        "    jb on_fault\n"
+        "    leaq _etext(%rip), %rcx\n"
+        "    cmpq %rcx, %rax\n"
+        "    jb 1b\n"
+        "    jmp on_fault\n");
 
 struct gate {
     UINT16 offset_low;
@@ -98,8 +105,10 @@ struct table_pointer {
 static struct gate gates[VECTORS];
 static void *back[5];
 
-/* A fault while a call is interrupted: it worked on what was overwritten. The call is given up. */
-static void on_fault(void)
+/* A fault while a call is interrupted, or a step in code that is not this program's: it worked on what was overwritten. The call is given up. */
+HIDDEN void on_fault(void);
+
+void on_fault(void)
 {
     __builtin_longjmp(back, 1);
 }

@@ -1,11 +1,11 @@
 // Bytes as lower-case hexadecimal digits.
 #![tactic(auto)]
 
-ghost use Rattle.std.specs.Prelude.{◌≡◌, ◌<◌, Some};
+ghost use Rattle.std.specs.Prelude.{◌≡◌, ◌<◌, ◌≤◌, Some, length};
 ghost use Rattle.wire.specs.Bytes.{Put, Room};
 ghost use Rattle.hex_digits.specs.Hex.{digit_of, hex_of};
 
-use std::fmt;
+use std::{fmt, str};
 
 // The character of a digit.
 fn digit(n: u8) -> u8
@@ -28,6 +28,19 @@ pub fn put_hex(d: &mut [u8], at: usize, s: &[u8]) -> usize
     at + s.len() * 2
 }
 
+// The digits of s as text, in room for them.
+#[tactic(auto, using(crate::proofs::Laws::showing))]
+fn hex_text<'r>(room: &'r mut [u8; 64], s: &[u8]) -> &'r str
+    requires { length s.now ≤ 32 }
+    ensures { result.now ≡ hex_of s.now }
+{
+    let end = put_hex(room, 0, s);
+    let Ok(text) = str::from_utf8(&room[..end]) else {
+        unreachable!();
+    };
+    text
+}
+
 // Bytes that print as their digits.
 #[derive(Drop)]
 pub struct Hex<'a>(pub &'a [u8]);
@@ -36,8 +49,9 @@ impl fmt::Display for Hex<'_> {
     ghost output = { λ h. Some (hex_of h.0.now) };
 
     fn fmt<W: fmt::Write>(&self, f: &mut fmt::Formatter<W>) -> fmt::Result {
-        for &byte in self.0 {
-            write!(f, "{byte:02x}")?;
+        let mut room = [0u8; 64];
+        for part in self.0.chunks(32) {
+            f.write_str(hex_text(&mut room, part))?;
         }
         Ok(())
     }

@@ -1,27 +1,32 @@
-use Rattle.std.proofs.Common.{◌≡◌, ℕ, ◌+◌, ◌-◌, ◌<◌, ◌^◌, List, [], ◌∷◌, ◌++◌, false, length, take, get_or, refl, rules}
-use Rattle.std.proofs.lemmas.List.{take_more}
-use Rattle.std.proofs.lemmas.Fmt.{hex_byte}
+use Rattle.std.proofs.Common.{◌≡◌, List, ℕ, [], ◌++◌, ap, ◌∙◌, rules, arith, append_assoc, append-nil}
 use Rattle.std.proofs.Output.{has_written_append, has_written_of_eq}
-use Rattle.std.specs.Fmt.{digits, format_spec, padded_integral}
+use Rattle.std.proofs.lemmas.Grind.{common_steps}
+use Rattle.std.proofs.lemmas.List.{nil_from_length}
 use Rattle.hex_digits.specs.Hex.{hex_of}
+use Rattle.hex_digits.proofs.Laws.{hex_append}
 use Rattle.hex_digits.proofs.HexDisplay.fmt.Goals as goal
 
--- the digits of bytes joined
-hex_append : (a b : List ℕ) → hex_of (a ++ b) ≡ hex_of a ++ hex_of b
-unfolding hex_of
-hex_append [] b = refl
-hex_append (x ∷ a) b = rw (hex_append a b)
+pub loop-part-init : goal.loop-part-init
+loop-part-init g c = (search rules, tt, search rules, λ plain. ([], search rules, ap hex_of (grind (arith, common_steps))))
 
--- the digits of one byte more
-hex_more : (s : List ℕ) (i : ℕ) → i < length s → get_or s i 0 < 256
-    → hex_of (take i s) ++ padded_integral (format_spec 32 0 4 2 (2 ^ 64 - 1)) false [] (digits 16 false (get_or s i 0)) ≡ hex_of (take (i + 1) s)
-unfolding hex_of
-hex_more s i h b = rw (take_more s i 0 h, hex_append, hex_byte false (get_or s i 0) b)
+-- the digits of one part more
+hex_more : (done part left rest : List ℕ) {all : List ℕ} → left ≡ part ++ rest → done ++ hex_of left ≡ all → (done ++ hex_of part) ++ hex_of rest ≡ all
+hex_more done part left rest e q = append_assoc done (hex_of part) (hex_of rest) ∙ rw (e, hex_append part rest) at q
 
-pub loop-byte-init : goal.loop-byte-init
-unfolding hex_of
-loop-byte-init g c = search rules
+pub loop-part-preserved : goal.loop-part-preserved
+loop-part-preserved g c =
+    let steps = c.in-Some.ensures.steps in (
+      search rules,
+      tt,
+      steps.0 ∙ c.loop-part.invariant.2,
+      λ plain.
+          let so_far = c.loop-part.invariant.3 plain in
+          (_, has_written_append _ _ _ _ _ _ so_far.1 (search rules), hex_more so_far.0 c.in-Some.part.now _ _ steps.1.0 so_far.2),
+    )
 
-pub loop-byte-preserved : goal.loop-byte-preserved
-loop-byte-preserved g c =
-    λ plain. has_written_of_eq _ _ _ _ _ (hex_more _ _ (search rules) (search rules)) (has_written_append _ _ _ _ _ _ (c.loop-byte.invariant plain) (search rules))
+pub returns-clause-writes : goal.returns-clause-writes
+unfolding hex_of
+returns-clause-writes g c = λ plain _.
+    let so_far = c.loop-part.invariant.3 plain in
+    let none = nil_from_length _ c.in-None.ensures.steps.1.0 in
+    has_written_of_eq _ _ _ _ _ (rw (none, append-nil) at so_far.2) so_far.1

@@ -33,7 +33,13 @@ module _ (P : Bank → Type 0) where
   all_active bitmap [] h = h
   all_active bitmap (b ∷ bs) h = kept (active bitmap b) b (active_of bitmap bs) h.0 (all_active bitmap bs h.1)
 
-  -- and of each active one
+  -- it holds of the one at a place
+  pub all_at : (bs : List Bank) (d : Bank) (i : ℕ) → All P bs → i < length bs → P (get_or bs i d)
+  all_at [] d i h k = absurd (omega arith)
+  all_at (b ∷ bs) d zero h k = h.0
+  all_at (b ∷ bs) d (suc i) h k = all_at bs d i h.1 (omega arith)
+
+  -- what holds of each bank of the table holds of each active one
   pub all_banks : (bitmap : ℕ) → All P table → All P (banks bitmap)
   unfolding banks
   all_banks bitmap h = all_active bitmap table h

@@ -1,5 +1,5 @@
 -- What is left of each loop over banks, and where a bank's registers and its digest stand. Assumes nothing.
-use Rattle.std.proofs.Common.{ℕ, suc, ◌+◌, ◌-◌, ◌*◌, ◌≤◌, ◌<◌, ◌≡◌, refl, sym, ap, ◌∙◌, List, ◌∷◌, ◌++◌, length, take, drop, replicate, map, arith, add-one, get_or}
+use Rattle.std.proofs.Common.{ℕ, suc, ◌+◌, ◌-◌, ◌*◌, ◌≤◌, ◌<◌, ◌≡◌, refl, sym, ap, ◌∙◌, List, ◌∷◌, ◌++◌, length, take, drop, replicate, map, arith, add-one, get_or, length-take, length-drop}
 use Rattle.std.proofs.Math.Nat.{suc-mul, mul-le-mul_right}
 use Rattle.std.proofs.Math.ListN.{drop_of_length-le}
 use Rattle.std.proofs.Math.Seq.{drop-cons}
@@ -12,19 +12,27 @@ use Rattle.bank.specs.declared.Bank.TheVariants.{Sha1, Sha256}
 use Rattle.bank.specs.Bank.{Bank, table}
 use Rattle.bank.specs.Named.{row}
 use Rattle.bank.specs.Registers.{digests_length, registers_length, extend, extend_all, reset_first, reset_of, reset_all, hash_all}
-use Rattle.bank.proofs.Laws.{Lawful, every_table, laid_within, laid_table, place_end, length_hash_all, length_extend_all, length_reset_first, length_reset_all}
+use Rattle.bank.proofs.Laws.{All, Lawful, Within, every_table, laid_within, laid_table, place_end, length_hash_all, length_extend_all, length_reset_first, length_reset_all}
 
 -- ---- a bank of the table, by its name
 
-pub lawful_row : (n : Name) → Lawful (row n)
+-- what holds of each bank of the table holds of it
+pub all_row : (P : Bank → Type 0) (n : Name) → All P table → P (row n)
 unfolding table
-lawful_row Sha1 = every_table.0
-lawful_row Sha256 = every_table.1.0
+all_row P Sha1 h = h.0
+all_row P Sha256 h = h.1.0
+
+pub lawful_row : (n : Name) → Lawful (row n)
+lawful_row n = all_row Lawful n every_table
+
+pub bit_row : (n : Name) → 0 < (row n).bit
+bit_row n = (lawful_row n).bit1
 
 pub within_row : (n : Name) → (row n).from + (row n).size ≤ digests_length
-unfolding table
-within_row Sha1 = (laid_within 0 table laid_table).0
-within_row Sha256 = (laid_within 0 table laid_table).1.0
+within_row n = all_row Within n (laid_within 0 table laid_table)
+
+pub size_row : (n : Name) → (row n).size ≤ digests_length
+size_row n = omega (arith, within_row n)
 
 -- its digest has room in its place
 pub room_digest : (n : Name) (at : ℕ) (d x m : List ℕ) → length d ≡ digests_length → at ≡ (row n).from → x ≡ (row n).hash m → Room d at x
@@ -88,8 +96,14 @@ pub record Placed (k : Name) (r q n f : ℕ) : Type 0 where
   pub from : f ≡ (row k).from
 
 module _ {k : Name} {r q n f : ℕ} (p : Placed k r q n f) where
-  register_end : 24 * f + q * n + n ≤ registers_length
+  pub register_end : 24 * f + q * n + n ≤ registers_length
   register_end = rw (p.size, p.from) (omega (arith, place_end (row k) q p.low, within_row k))
+
+  pub length_register : (registers : List ℕ) → length registers ≡ registers_length
+      → length (part registers (24 * f + q * n) (24 * f + q * n + n - (24 * f + q * n))) ≡ (row k).size
+  length_register registers l =
+      let e : 24 * f + q * n + n - (24 * f + q * n) ≡ n = omega arith in
+      rw e (simp (length-take, length-drop) (omega (arith, register_end, p.size)))
 
   pub extend_register : (registers d m : List ℕ) → length registers ≡ registers_length → m ≡ (row k).hash (part registers (24 * f + q * n) (24 * f + q * n + n - (24 * f + q * n)) ++ d)
       → take (24 * f + q * n) registers ++ (m ++ drop (24 * f + q * n + n - (24 * f + q * n)) (drop (24 * f + q * n) registers)) ≡ extend (row k) r d registers

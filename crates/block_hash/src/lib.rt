@@ -15,6 +15,9 @@ pub trait BlockHash: Copy {
 
     ghost value: { Self → Value };
 
+    // The schedule before any block.
+    ghost cleared: { Self.Schedule };
+
     // 5.3: the hash value before any block.
     ghost initial: { Value };
 
@@ -38,7 +41,8 @@ pub trait BlockHash: Copy {
     const DIGEST_SIZE: usize;
 
     // A schedule to lend.
-    fn schedule() -> Self::Schedule;
+    fn schedule() -> Self::Schedule
+        ensures { result ≡ cleared };
 
     fn start() -> Self
         ensures { value result ≡ initial };

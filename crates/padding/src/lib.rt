@@ -15,7 +15,7 @@ pub fn add(x: u32, y: u32) -> u32
 }
 
 // FIPS 180-4, 4.1: Ch. Where y and z differ, x picks: one operation less than in the standard's form.
-#[tactic(auto, using(crate::proofs::Bits::choose_is))]
+#[tactic(auto, using(crate::proofs::Bits::choose_32))]
 pub fn choose(x: u32, y: u32, z: u32) -> u32
     ensures { result ≡ ch 32 x y z }
 {

@@ -1,13 +1,13 @@
 -- The rounds in their quarters, the schedule, the digest's bytes, and the block of a register and a digest. Assumes nothing.
-use Rattle.std.proofs.Common.{◌≡◌, refl, sym, ap, ◌∙◌, List, ◌++◌, append_assoc, ℕ, ◌+◌, ◌-◌, ◌*◌, ◌/◌, ◌%◌, ◌^◌, ◌<◌, ◌≤◌, arith, lt-ltb, le-ltb, length, take, get_or, length-append, get_or-take, w32}
+use Rattle.std.proofs.Common.{◌≡◌, refl, sym, ap, ◌∙◌, List, ◌++◌, append_assoc, ℕ, ◌+◌, ◌-◌, ◌*◌, ◌/◌, ◌%◌, ◌^◌, ◌<◌, ◌≤◌, arith, lt-ltb, le-ltb, length, take, drop, get_or, length-append, get_or-take, w32}
 use Rattle.std.proofs.lemmas.List.Edits.{sets}
 use Rattle.std.proofs.lemmas.Nat.{or_comm}
 use Rattle.std.specs.Int.{rotate_left}
 use Rattle.wire.specs.Bytes.{Put, Room}
 use Rattle.wire.proofs.Laws.{put_length, put_all, then}
 use Rattle.padding.specs.Words.{rotl, ch, maj, parity, run, steps, words, bytes}
-use Rattle.padding.specs.Padding.{blocks, padding}
-use Rattle.padding.proofs.Laws.{steps_more, steps_same, run_steps, take_sets, length_words, length_bytes, hash_one}
+use Rattle.padding.specs.Padding.{blocks, padding, absorbed, finished}
+use Rattle.padding.proofs.Laws.{steps_more, steps_same, run_steps, take_sets, length_words, length_bytes, hash_one, in_parts, lent_rest}
 use Rattle.sha1_hash.specs.Sha1.{next, step, step_of, turn, f, K, expanded, rounds, compress, output, H₀, sha1}
 use Rattle.sha1_hash.specs.declared.State.{State}
 
@@ -85,6 +85,10 @@ pub length_output : (s : State) → length (output s) ≡ 20
 unfolding output
 length_output s = simp (length-append, length_bytes)
 
+-- 20 bytes are room for a hash value
+pub room_output : (s : State) (d : List ℕ) → length d ≡ 20 → Room d 0 (output s)
+room_output s d l = record { fits = omega (arith, length_output s) }
+
 -- 20 bytes have room for any four words, and behind them for any fifth
 module _ {d : List ℕ} (l : length d ≡ 20) (x y z u : ℕ) where
   pub room_four : Room d 0 (bytes 4 x ++ (bytes 4 y ++ (bytes 4 z ++ bytes 4 u)))
@@ -103,3 +107,9 @@ pub forty : (m : List ℕ) (s : State) → length m ≡ 40 → s ≡ compress H�
 unfolding sha1 blocks
 forty m s l e =
     ap output (e ∙ ap (λ (n : ℕ). compress H₀ (m ++ padding 64 8 n)) (sym l) ∙ sym (hash_one compress 64 8 m H₀ (omega arith) (rw l)))
+
+-- whole blocks, and then what is left
+pub in_two : (m r : List ℕ) (s v : State) → s ≡ H₀ → v ≡ absorbed compress 64 m s
+    → r ≡ output (finished compress 64 8 (length m) (take (length m - length m / 64 * 64) (drop (length m / 64 * 64) m)) v) → r ≡ sha1 m
+unfolding sha1
+in_two m r s v p q e = e ∙ (rw (lent_rest (length m / 64 * 64) m, q, p)) ∙ ap output (in_parts compress 64 8 m H₀ (omega arith))

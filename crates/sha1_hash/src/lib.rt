@@ -1,11 +1,11 @@
 // SHA-1 (FIPS 180-4, 6.1) of any lent slice, and of a register and a digest where they lie.
 #![tactic(auto)]
 
-ghost use Rattle.std.specs.Prelude.{◌≡◌, ◌++◌, ◌+◌, ◌<◌, ◌≤◌, ℕ, length, take, set};
+ghost use Rattle.std.specs.Prelude.{◌≡◌, ◌++◌, ◌+◌, ◌%◌, ◌<◌, ◌≤◌, ℕ, length, take, set, replicate};
 ghost use Rattle.std.proofs.Common.{lit<};
 ghost use Rattle.std.proofs.lemmas.List.Edits.{sets};
 ghost use Rattle.padding.specs.Words.{parity, steps, words};
-ghost use Rattle.padding.specs.Padding.{padding};
+ghost use Rattle.padding.specs.Padding.{padding, absorbed, finished};
 ghost use Rattle.sha1_hash.specs.Sha1.{next, step_of, join, expanded, rounds, compress, output, H₀, sha1};
 ghost use Rattle.sha1_hash.specs.Sha1 as spec;
 ghost use Rattle.sha1_hash.specs.declared.State.{State};
@@ -126,6 +126,8 @@ impl BlockHash for State {
 
     ghost value = { λ s. s };
 
+    ghost cleared = { replicate 80 0 };
+
     ghost initial = { H₀ };
 
     ghost compress = { compress };
@@ -172,6 +174,28 @@ impl BlockHash for State {
         let at = padding::put_four(d, 0, self.a, self.b, self.c, self.d);
         padding::put_word(d, at, self.e);
     }
+}
+
+// 5.3.1: the hash value before any block.
+pub fn start() -> State
+    ensures { result ≡ H₀ }
+{
+    State::start()
+}
+
+// The hash value after the whole blocks of m.
+pub fn absorb(s: State, m: &[u8]) -> State
+    ensures { result ≡ absorbed compress 64 m.now s }
+{
+    block_hash::absorb(s, m)
+}
+
+// The digest of a message of n bytes whose whole blocks gave s, and whose other bytes are rest.
+pub fn finish(s: State, rest: &[u8], n: u64) -> [u8; 20]
+    requires { n % 64 ≡ length rest.now }
+    ensures { result ≡ output (finished compress 64 8 n rest.now s) }
+{
+    block_hash::finish::<State, 128, 20>(s, rest, n)
 }
 
 // FIPS 180-4, 6.1: the digest of a message.

@@ -22,7 +22,7 @@ compressed w w₁ w₂ m s r l e₁ e₂ e₃ =
     e₃ ∙ (rw (e₂, e₁, t))
 
 -- the output as two runs of four words
-output_halves : (s : Eight) → output P s
+pub output_halves : (s : Eight) → output P s
     ≡ (bytes 4 s.a ++ (bytes 4 s.b ++ (bytes 4 s.c ++ bytes 4 s.d))) ++ (bytes 4 s.e ++ (bytes 4 s.f ++ (bytes 4 s.g ++ bytes 4 s.h)))
 unfolding output
 output_halves s = sym (simp append_assoc)

@@ -1,10 +1,10 @@
 // SHA-256 (FIPS 180-4, 6.2) of any lent slice, and of a register and a digest where they lie.
 #![tactic(auto)]
 
-ghost use Rattle.std.specs.Prelude.{◌≡◌, ◌++◌, ◌+◌, ◌<◌, length, take, set};
+ghost use Rattle.std.specs.Prelude.{◌≡◌, ◌++◌, ◌+◌, ◌%◌, ◌<◌, length, take, set, replicate};
 ghost use Rattle.std.proofs.Common.{lit<};
 ghost use Rattle.padding.specs.Words.{plus};
-ghost use Rattle.padding.specs.Padding.{padding};
+ghost use Rattle.padding.specs.Padding.{padding, absorbed, finished};
 ghost use Rattle.padding.specs.Sha2.{Eight, next, step, round, join, expanded, rounds, compress, output};
 ghost use Rattle.sha256.specs.Sha256.{P, H₀, value, sha256};
 
@@ -172,6 +172,8 @@ impl BlockHash for State {
 
     ghost value = { value };
 
+    ghost cleared = { replicate 64 0 };
+
     ghost initial = { H₀ };
 
     ghost compress = { compress P };
@@ -221,6 +223,28 @@ impl BlockHash for State {
         let at = padding::put_four(d, 0, self.a, self.b, self.c, self.d);
         padding::put_four(d, at, self.e, self.f, self.g, self.h);
     }
+}
+
+// 5.3.3: the hash value before any block.
+pub fn start() -> State
+    ensures { value result ≡ H₀ }
+{
+    State::start()
+}
+
+// The hash value after the whole blocks of m.
+pub fn absorb(s: State, m: &[u8]) -> State
+    ensures { value result ≡ absorbed (compress P) 64 m.now (value s) }
+{
+    block_hash::absorb(s, m)
+}
+
+// The digest of a message of n bytes whose whole blocks gave s, and whose other bytes are rest.
+pub fn finish(s: State, rest: &[u8], n: u64) -> [u8; 32]
+    requires { n % 64 ≡ length rest.now }
+    ensures { result ≡ output P (finished (compress P) 64 8 n rest.now (value s)) }
+{
+    block_hash::finish::<State, 128, 32>(s, rest, n)
 }
 
 // FIPS 180-4, 6.2: the digest of a message.

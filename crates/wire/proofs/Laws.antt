@@ -88,6 +88,11 @@ num_lt s at w h =
 pub part_here : (a b c : List ℕ) → part (a ++ (b ++ c)) (length a) (length b) ≡ b
 part_here a b c = rw (drop-append_seam a (b ++ c)) (take-append_seam b c)
 
+-- the number that stands after a is found at a's end
+pub num_here : (a : List ℕ) (w n : ℕ) (c : List ℕ) → num (a ++ (le w n ++ c)) (length a) w ≡ n % 256 ^ w
+unfolding num
+num_here a w n c = ap unle (rw length_le at (part_here a (le w n) c)) ∙ unle_le w n
+
 -- ---- runs of stores
 
 -- a run of xs and ys is a run of xs and, right behind it, one of ys
@@ -207,6 +212,11 @@ lent_tail {bs} {m} l u p =
       next = omega arith;
       bytes = rw (drop_of_length-le (drop u l) h, append-nil, q) (sets_tail u l bs);
     }
+
+-- the same of an array l, whose length n is a numeral
+pub lent_tail_of : {bs m : List ℕ} {k : ℕ} (l : List ℕ) (u n : ℕ) → length l ≡ n → Put (take (n - u) (drop u l)) 0 bs k m
+    → Put l u bs (u + k) (take u l ++ (m ++ drop (n - u) (drop u l)))
+lent_tail_of l u n e p = rw (← e) (lent_tail l u (rw (← e) at p))
 
 -- ---- the writers and the reader of this crate
 

@@ -37,7 +37,7 @@ returns c =
     let g = good_of c.args.flags c.args.n c.args.request.now e in (
       e,
       record {
-        register = register_some _ _ (sym c.new.ensures ∙ c.in_ok-register.was) ∙ c.get_le.ensures.0;
+        register = omega (arith, register_some _ _ (sym c.new.ensures ∙ c.in_ok-register.was), g.register, c.get_le.ensures.0);
         kind = c.get_le-kind.ensures.0;
         event = rw c.get_le-size.ensures.0 refl;
         short = rw c.get_le-size.ensures.0 (short_event c.args.request.now g);

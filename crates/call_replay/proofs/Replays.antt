@@ -67,8 +67,11 @@ module _ (replay : List ℕ) (format : ℕ) (log : List ℕ) where
 abbrev pub sized : List ℕ → List ℕ → Bool
 sized replay answer = eqb (length replay) replay_length && eqb (length answer) answer_length
 
-replay_sized : (replay answer : List ℕ) → sized replay answer ≡ true → length replay ≡ replay_length
+pub replay_sized : (replay answer : List ℕ) → sized replay answer ≡ true → length replay ≡ replay_length
 replay_sized replay answer h = grind (arith, tests)
+
+pub answer_sized : (replay answer : List ℕ) → sized replay answer ≡ true → length answer ≡ answer_length
+answer_sized replay answer h = grind (arith, tests)
 
 module _ (replay log : List ℕ) (asked : ℕ) (answer : List ℕ) where
   abbrev call : SliceCallOutcome

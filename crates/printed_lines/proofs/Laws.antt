@@ -1,11 +1,14 @@
--- What the library prints of a number, the turns of the loop over a bank's registers, and how long lines are. Assumes nothing.
-use Rattle.std.proofs.Common.{◌≡◌, sym, List, ◌++◌, ℕ, zero, suc, ◌+◌, ◌-◌, ◌^◌, ◌≤◌, ◌<◌, length, arith, rules, add-one, suc-add, zero-add, length-append}
+-- What the digits of a number are and that the library prints them, a bank's name, the turns of the loop over a bank's registers, and how long lines are. Assumes nothing.
+use Rattle.std.proofs.Common.{◌≡◌, refl, sym, ◌∙◌, List, [], ◌∷◌, ◌++◌, ℕ, zero, suc, ◌+◌, ◌-◌, ◌/◌, ◌%◌, ◌^◌, ◌≤◌, ◌<◌, length, replicate, arith, rules, eq-eqb, ne_eqb, add-one, suc-add, zero-add, length-append}
 use Rattle.std.specs.Fmt.{decimal as printed}
 use Rattle.std.proofs.lemmas.Fmt.{decimal_from_appends, AppendsLastDigit, length-decimal-le}
+use Rattle.std.proofs.lemmas.Bool.{lt-ltb, le-ltb}
 use Rattle.wire.specs.Bytes.{Put, Room}
 use Rattle.wire.proofs.Laws.{then, put_length}
+use Rattle.hex_digits.specs.Hex.{hex_of}
 use Rattle.bank.specs.Bank.{Bank}
-use Rattle.printed_lines.specs.Lines.{digits, decimal, register_line, lines_first}
+use Rattle.bank.specs.Registers.{value}
+use Rattle.printed_lines.specs.Lines.{digits, decimal, feed, name, line_head, register_line, lines_first}
 
 -- ---- the digits of a number
 
@@ -13,9 +16,35 @@ last_digit : AppendsLastDigit digits
 unfolding digits
 last_digit = search rules
 
--- are those that the library prints
+pub digits_none : (k n : ℕ) → k ≡ 0 → digits k n ≡ []
+unfolding digits
+digits_none k n e = rw e
+
+pub digits_one : (k n : ℕ) → (k ≡ 0 → ⊥) → n < 10 → digits k n ≡ replicate 1 (48 + n)
+unfolding digits
+digits_one zero n h l = absurd (h refl)
+digits_one (suc k) n h l = rw (lt-ltb n 10 l)
+
+pub digits_more : (k n : ℕ) → (k ≡ 0 → ⊥) → 10 ≤ n → digits k n ≡ digits (k - 1) (n / 10) ++ replicate 1 (48 + n % 10)
+unfolding digits
+digits_more zero n h l = absurd (h refl)
+digits_more (suc k) n h l =
+    let e : suc k - 1 ≡ k = omega arith in
+    rw (le-ltb n 10 l, e)
+
+-- they are those that the library prints
 pub decimal_printed : (n : ℕ) → n < 2 ^ 64 → printed n ≡ decimal n
 decimal_printed n h = sym (decimal_from_appends digits last_digit 20 n h (length-decimal-le 20 n (omega arith) (omega arith) h))
+
+-- ---- a bank's name
+
+pub name_first : (b : Bank) {a : ℕ} → a ≡ b.algorithm → a ≡ 4 → name b ≡ 115 ∷ (104 ∷ (97 ∷ (49 ∷ [])))
+unfolding name
+name_first b e h = rw (eq-eqb b.algorithm 4 (sym e ∙ h))
+
+pub name_other : (b : Bank) {a : ℕ} → a ≡ b.algorithm → (a ≡ 4 → ⊥) → name b ≡ 115 ∷ (104 ∷ (97 ∷ (50 ∷ (53 ∷ (54 ∷ [])))))
+unfolding name
+name_other b e h = rw (ne_eqb b.algorithm 4 (λ q. h (e ∙ q)))
 
 -- ---- a register more of a bank's
 
@@ -25,6 +54,12 @@ longer b registers n zero = rw zero-add (omega arith)
 longer b registers n (suc k) = rw suc-add (omega (arith, longer b registers n k, length-append (lines_first b (k + n) registers) (register_line b (k + n) registers)))
 
 module _ (b : Bank) (r : ℕ) (registers : List ℕ) where
+  -- a line is its head, the digits of the register's value, and the line feed
+  pub put_whole_line : {x d m m' d' : List ℕ} {at j k l : ℕ} → Put d at (line_head b r) j m → Put m j (hex_of x) k m' → Put m' k feed l d' → x ≡ value b r registers
+      → Put d at (register_line b r registers) l d'
+  unfolding register_line
+  put_whole_line p q s e = then p (then (rw e at q) s)
+
   pub lines_more : lines_first b (r + 1) registers ≡ lines_first b r registers ++ register_line b r registers
   unfolding lines_first
   lines_more = rw (add-one r)

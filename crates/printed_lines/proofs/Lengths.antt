@@ -1,11 +1,10 @@
 -- How long the lines are: every output finds room in the buffer. Assumes nothing.
 use Rattle.std.proofs.Common.{List, [], ◌∷◌, ◌≡◌, ℕ, zero, suc, ◌+◌, ◌*◌, ◌/◌, ◌^◌, ◌≤◌, ◌<◌, suc-mul, arith, length, length-append, length-take}
-use Rattle.std.proofs.lemmas.Fmt.{length-decimal-le}
+use Rattle.std.proofs.Math.Nat.{pow-suc}
 use Rattle.hex_digits.proofs.Laws.{length_hex}
 use Rattle.bank.specs.Bank.{Bank, sha1_bank, sha256_bank, table, active_of, banks}
 use Rattle.bank.specs.Registers.{value}
 use Rattle.printed_lines.specs.Lines.{digits, decimal, numbered, refused_word, at_word, refused_line, entries_word, entries_line, name, two_digits, line_head, register_line, lines_first, banks_lines}
-use Rattle.printed_lines.proofs.Laws.{decimal_printed}
 
 -- ---- numbers
 
@@ -15,9 +14,15 @@ unfolding digits
 length_digits zero n = omega arith
 length_digits (suc k) n = grind (arith, length_digits k (n / 10), length-append)
 
--- a number below 100000 has at most 5 of them
-length_below : (n : ℕ) → n < 10 ^ 5 → length (decimal n) ≤ 5
-length_below n h = rw (← decimal_printed n (omega arith)) (length-decimal-le 5 n (omega arith) h (omega arith))
+-- a number below 10 ^ (j + 1) has at most j + 1 of them
+pub length_below : (k j n : ℕ) → n < 10 ^ suc j → length (digits k n) ≤ suc j
+unfolding digits
+length_below zero j n h = omega arith
+length_below (suc k) zero n h = grind (arith, length-append)
+length_below (suc k) (suc i) n h =
+    let q : n < 10 ^ suc i * 10 = rw (pow-suc 10 (suc i)) at h in
+    let f : n / 10 < 10 ^ suc i = omega arith in
+    grind (arith, length_below k i (n / 10) f, length-append)
 
 length_numbered : (word : List ℕ) (n : ℕ) → length (numbered word n) ≡ length word + length (decimal n)
 unfolding numbered
@@ -36,7 +41,7 @@ pub length_entries : (n : ℕ) → (8 < length (entries_line n)) × (n < 10 ^ 5 
 unfolding entries_line entries_word
 length_entries n =
     let a = length_numbered entries_word n in
-    (grind (arith, length-append), λ h. grind (arith, length-append, length_below n h))
+    (grind (arith, length-append), λ h. grind (arith, length-append, length_below 20 4 n h))
 
 -- ---- the lines of registers
 

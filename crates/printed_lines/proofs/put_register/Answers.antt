@@ -1,7 +1,6 @@
-use Rattle.wire.proofs.Laws.{then}
-use Rattle.printed_lines.specs.Lines.{register_line}
+use Rattle.std.proofs.Common.{rules}
+use Rattle.printed_lines.proofs.Laws.{put_whole_line}
 use Rattle.printed_lines.proofs.put_register.Goals as goal
 
 pub returns : goal.returns
-unfolding register_line
-returns c = rw (← c.value.ensures) (then c.put_head-head.ensures (then c.put_hex-hex.ensures c.put_fill.ensures))
+returns c = put_whole_line _ _ _ c.put_head-head.ensures c.put_hex-hex.ensures c.put_fill.ensures (search rules)

@@ -30,8 +30,8 @@ pub fn put_hex(d: &mut [u8], at: usize, s: &[u8]) -> usize
 
 // The digits of s as text, in room for them.
 #[tactic(auto, using(crate::proofs::Laws::showing))]
-fn hex_text<'r>(room: &'r mut [u8; 64], s: &[u8]) -> &'r str
-    requires { length s.now ≤ 32 }
+fn hex_text<'r>(room: &'r mut [u8; 128], s: &[u8]) -> &'r str
+    requires { length s.now ≤ 64 }
     ensures { result.now ≡ hex_of s.now }
 {
     let end = put_hex(room, 0, s);
@@ -49,8 +49,8 @@ impl fmt::Display for Hex<'_> {
     ghost output = { λ h. Some (hex_of h.0.now) };
 
     fn fmt<W: fmt::Write>(&self, f: &mut fmt::Formatter<W>) -> fmt::Result {
-        let mut room = [0u8; 64];
-        for part in self.0.chunks(32) {
+        let mut room = [0u8; 128];
+        for part in self.0.chunks(64) {
             f.write_str(hex_text(&mut room, part))?;
         }
         Ok(())

@@ -10,6 +10,6 @@ abbrev pub invariant-loop-part : goal.invariant-loop-part
 invariant-loop-part g l =
     (goal.iterator-loop-part g).can_next l.part-iterator
     × (goal.iterator-loop-part g).is_finite l.part-iterator
-    × (chunks_size l.part-iterator ≡ 32)
+    × (chunks_size l.part-iterator ≡ 64)
     × (IsPlainFormatter l.initial.f → (done : List ℕ) × HasWritten g.W.Write.write_str_gives l.initial.f done l.f
     × (done ++ hex_of (chunks_rest l.part-iterator) ≡ hex_of l.fn.self.0.now))

@@ -1,4 +1,3 @@
 pub mod Sha1
 pub mod Sha256
-pub mod Widths
 pub mod Entry

@@ -6,6 +6,7 @@ ghost use Rattle.call_state.specs.Calls.{call_outcome};
 ghost use Rattle.call_request.specs.RequestCall.{request_call};
 
 // HashLogExtendEvent on the state that lies in state.
+#[tactic(auto, using(call_state::proofs::Laws::length_of), unfolding(crate::specs::RequestCall::request_call))]
 pub fn request(
     state: &mut [u8],
     flags: u64,

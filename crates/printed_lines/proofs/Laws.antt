@@ -1,4 +1,5 @@
--- What the digits of a number are and that the library prints them, a bank's name, the turns of the loop over a bank's registers, and how long lines are. Assumes nothing.
+-- What the digits of a number are and that the library prints them, a bank's name, the turns of the loop over a bank's registers, and how long
+-- lines are. Assumes nothing.
 use Rattle.std.proofs.Common.{◌≡◌, refl, sym, ◌∙◌, List, [], ◌∷◌, ◌++◌, ℕ, zero, suc, ◌+◌, ◌-◌, ◌/◌, ◌%◌, ◌^◌, ◌≤◌, ◌<◌, length, replicate, arith, rules, eq-eqb, ne_eqb, add-one, suc-add, zero-add, length-append}
 use Rattle.std.specs.Fmt.{decimal as printed}
 use Rattle.std.proofs.lemmas.Fmt.{decimal_from_appends, AppendsLastDigit, length-decimal-le}
